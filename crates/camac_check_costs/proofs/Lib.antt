@@ -2,6 +2,6 @@ pub mod Whole
 pub mod Left
 pub mod Placed
 pub mod PlaceLaws
-pub mod PlaceStatements
+pub mod PlacesReached
 pub mod PlaceTurns
 pub mod TurnsTold

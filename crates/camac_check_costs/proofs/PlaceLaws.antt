@@ -1,9 +1,11 @@
 -- What holds of the places that are found.
-use Rattle.std.proofs.Common.{◌≡◌, ◌⊎◌, ℕ, zero, suc, ◌+◌, ◌-◌, ◌<◌, Bool, true, false, List, [], ◌∷◌, Option, Some, None, Result, Ok, Err, refl, ap, ◌∙◌, subst, inl, inr, arith}
+use Rattle.std.proofs.Common.{◌≡◌, ℕ, zero, suc, ◌+◌, ◌-◌, ◌<◌, Bool, true, false, List, [], ◌∷◌, Option, Some, None, Result, Ok, Err, refl, sym, ap, ◌∙◌, subst, inl, inr, arith}
 use Rattle.std.specs.Prelude.{◌&&◌, nat_le, nat_lt, if◌then◌else◌}
 use Rattle.std.proofs.lemmas.Bool.{and_parts, ltb-true}
-use Rattle.camac_lang.specs.Tree.{Statement, assign, set_register, single, address_scan, q_stop, q_repeat, put, crate_call, lam_call, choose, choose_else, for_, for_each, while_, locked, call, Block, done, next}
+use Rattle.camac_lang.specs.Tree.{Statement, choose, choose_else, for_, for_each, while_, locked, Block, done, next}
 use Rattle.camac_range.specs.Interval.{only}
+use Rattle.camac_rules.specs.declared.case.Body.{Body}
+use Rattle.camac_rules.specs.Addresses.{crate_end, is_among}
 use Rattle.camac_rules.specs.Calls.{lock_rule}
 use Rattle.camac_rules.specs.Conditions.{Branches, split}
 use Rattle.camac_rules.specs.Costs.{Verdict}
@@ -15,7 +17,7 @@ use Rattle.camac_rules.specs.Loops.{Limits, with_fixed, for_limits, for_head, wh
 use Rattle.camac_rules.specs.Refusal.{go_on, if_reached}
 use Rattle.camac_rules.specs.Statements.{accept_statement, accept_block}
 use Rattle.camac_check_costs.specs.declared.turns.EachLoop.{EachLoop}
-use Rattle.camac_check_costs.specs.Places.{Place, place, HasPlace, BlockHasPlace, at_turn, IsTold, at_one, at_both, PlacesAreFound, TurnsAreTold, begins_at, holds, holds_at, each_inside, each_around, chosen_inside, are_chosen, told_of_both, left_by, over_turns, in_turns, place_inside, place_in_block}
+use Rattle.camac_check_costs.specs.Places.{Place, place, HasPlace, BlockHasPlace, at_turn, IsTold, at_one, at_both, IsAt, PlacesAreFound, TurnsAreTold, begins_at, holds, holds_at, each_inside, each_around, chosen_inside, are_chosen, locked_in_both, told_of_both, left_by, over_turns, in_turns, place_inside, place_in_block}
 
 -- ---- what led to an answer
 
@@ -54,16 +56,17 @@ is_told : (P : Place → Type 0) (b : Bool) (told : Place) → Tells P b told �
 is_told P true told h = at_one told h
 is_told P false told h = h
 
-by_choice : (P : Place → Type 0) (b : Bool) (xs : List EachLoop) (turns : List ℕ) (here p : Place) (f : Found) → P here → (f ≡ Ok (Some p) → Tells P (are_chosen xs turns) p)
-    → (if b then Ok (Some here) else f) ≡ Ok (Some p) → Tells P (are_chosen (if b then [] else xs) turns) p
-by_choice P true xs turns here p f h g e = subst P (same_place here p e) h
-by_choice P false xs turns here p f h g e = g e
+by_choice : (P : Option Statement → Place → Type 0) (b : Bool) (s : Option Statement) (xs : List EachLoop) (turns : List ℕ) (here p : Place) (f : Found)
+    → (b ≡ true → P (Some here.statement) here) → (f ≡ Ok (Some p) → Tells (P s) (are_chosen xs turns) p)
+    → (if b then Ok (Some here) else f) ≡ Ok (Some p) → Tells (P (if b then Some here.statement else s)) (are_chosen (if b then [] else xs) turns) p
+by_choice P true s xs turns here p f h g e = subst (P (Some here.statement)) (same_place here p e) (h refl)
+by_choice P false s xs turns here p f h g e = g e
 
-in_either : (P : Place → Type 0) (b : Bool) (first other : Found) (xs ys : List EachLoop) (turns : List ℕ) (p : Place)
-    → (first ≡ Ok (Some p) → Tells P (are_chosen xs turns) p) → (other ≡ Ok (Some p) → Tells P (are_chosen ys turns) p)
-    → (if b then first else other) ≡ Ok (Some p) → Tells P (are_chosen (if b then xs else ys) turns) p
-in_either P true first other xs ys turns p h g e = h e
-in_either P false first other xs ys turns p h g e = g e
+in_either : (P : Option Statement → Place → Type 0) (b : Bool) (first other : Found) (s u : Option Statement) (xs ys : List EachLoop) (turns : List ℕ) (p : Place)
+    → (first ≡ Ok (Some p) → Tells (P s) (are_chosen xs turns) p) → (other ≡ Ok (Some p) → Tells (P u) (are_chosen ys turns) p)
+    → (if b then first else other) ≡ Ok (Some p) → Tells (P (if b then s else u)) (are_chosen (if b then xs else ys) turns) p
+in_either P true first other s u xs ys turns p h g e = h e
+in_either P false first other s u xs ys turns p h g e = g e
 
 -- ---- turns
 
@@ -77,7 +80,7 @@ both_told P (Some p) None h g = h
 both_told P (Some p) (Some q) h g = at_both p q h g
 
 -- a place of one of these turns is told so
-abbrev pub EachTells : (P : Place → Type 0) (count x v : ℕ) (check : Facts → Result Verdict Fault) (k : Facts) → (Facts → Place → Type 0) → Type 0
+abbrev EachTells : (P : Place → Type 0) (count x v : ℕ) (check : Facts → Result Verdict Fault) (k : Facts) → (Facts → Place → Type 0) → Type 0
 EachTells P count x v check k Tells = (turn : ℕ) → turn < count → (t : Facts) → at_turn check x v turn k ≡ Ok (Some t) → (p : Place) → Tells t p
 
 pub next_turn : (check : Facts → Result Verdict Fault) (x v turn : ℕ) (k q : Facts) (left : Verdict) → check (with_range x (only v) k) ≡ Ok left → left.after ≡ Some q
@@ -136,102 +139,141 @@ turns_tell P test count x v check find k (value ∷ inner) p each e =
     let t = was_reached known (find inner) p o.2 in
     each inner turn (ltb-true turn count (and_parts (nat_le v value) (nat_lt turn count) h.0).1) t.0 (o.1 ∙ ap Ok t.1) p t.2
 
-pub turns_told : (P : Place → Type 0) (count x v : ℕ) (check : Facts → Result Verdict Fault) (find : List ℕ → Facts → Found) (k : Facts) (turns : List ℕ) (p : Place)
-    → ((inner : List ℕ) → EachTells P count x v check k (λ t q. find inner t ≡ Ok (Some q) → IsTold P q)) → in_turns count x v check find k turns ≡ Ok (Some p) → IsTold P p
-turns_told P count x v check find k turns p each e =
-    is_told P (chosen_inside (λ inner. false) turns) p (turns_tell P (λ inner. false) count x v check find k turns p each e)
-
 -- ---- places
 
-abbrev Inside : Context → Around → Statement → Facts → Place → Type 0
-Inside c around s k p = HasPlace c p around s k
+-- the statement that begins there
+abbrev mutual
+  pub statement_inside : Statement → (left : ℕ) → Option Statement
+  statement_inside (choose spot test a) n = statement_in a n
+  statement_inside (choose_else spot test a b) n = if holds n a then statement_in a n else statement_in b n
+  statement_inside (for_ spot x e1 e2 keeps body) n = statement_in body n
+  statement_inside (for_each spot x v last body) n = statement_in body n
+  statement_inside (while_ spot test most x keeps body) n = statement_in body n
+  statement_inside (locked spot e body) n = statement_in body n
+  statement_inside s n = None
 
-abbrev There : Context → Around → Block → Facts → Place → Type 0
-There c around b k p = BlockHasPlace c p around b k
+  pub statement_in : Block → (left : ℕ) → Option Statement
+  statement_in done n = None
+  statement_in (next s rest) n = if holds_at n s then (if begins_at n s then Some s else statement_inside s n) else statement_in rest n
+
+pub record IsPlaced (s : Option Statement) (b : Body) (p : Place) : Type 0 where
+  pub statement : s ≡ Some p.statement
+  pub body : b ≡ p.around.body
+
+one_body : (b : Bool) (c : ℕ) (a d : Around) → a.body ≡ d.body → (if b then with_locked c a else a).body ≡ d.body
+one_body true c a d e = e
+one_body false c a d e = e
+
+pub body_of_both : (n : ℕ) (a b : Around) → (locked_in_both n a b).body ≡ a.body
+body_of_both zero a b = refl
+body_of_both (suc c) a b = one_body (is_among c a.locked && is_among c b.locked) c (locked_in_both c a b) a (body_of_both c a b)
+
+told_placed : (s : Option Statement) (b : Body) (p : Place) → IsTold (IsPlaced s b) p → IsPlaced s b p
+told_placed s b p (at_one q i) = i
+told_placed s b p (at_both q r i j) =
+    let h = told_placed s b q i in
+    record { statement = h.statement; body = h.body ∙ sym (body_of_both crate_end q.around r.around) }
+
+abbrev Inside : Context → Around → Statement → Facts → ℕ → Option Statement → Place → Type 0
+Inside c around s k n o p = (HasPlace c p around s k × (begins_at n p.statement ≡ true)) × IsPlaced o around.body p
+
+abbrev There : Context → Around → Block → Facts → ℕ → Option Statement → Place → Type 0
+There c around b k n o p = IsAt c around b k n p × IsPlaced o around.body p
 
 mutual
   inside : (c : Context) (around : Around) (s : Statement) (k : Facts) (n : ℕ) (turns : List ℕ) (p : Place) → place_inside c around s k n turns ≡ Ok (Some p)
-      → Tells (Inside c around s k) (are_chosen (each_inside n s) turns) p
+      → Tells (Inside c around s k n (statement_inside s n)) (are_chosen (each_inside n s) turns) p
   inside c around (choose spot test a) k n turns p e =
       let find : Facts → Found = λ t. place_in_block c around a t n turns in
+      let o : Option Statement = statement_in a n in
       let s = went_on (split spot test k) (λ arms. if_reached None arms.holds find) p e in
       let arms : Branches = s.0 in
       let r = was_reached arms.holds find p s.2 in
-      tells_more (There c around a r.0) (Inside c around (choose spot test a) k) (λ q i. (arms, s.1, (r.0, r.1, i))) (are_chosen (each_around n a) turns) p (block_inside c around a r.0 n turns p r.2)
+      tells_more (There c around a r.0 n o) (Inside c around (choose spot test a) k n o) (λ q i. (((arms, s.1, (r.0, r.1, i.0.0)), i.0.1), i.1)) (are_chosen (each_around n a) turns) p (block_inside c around a r.0 n turns p r.2)
   inside c around (choose_else spot test a b) k n turns p e =
       let find : Facts → Found = λ t. place_in_block c around a t n turns in
       let other : Facts → Found = λ t. place_in_block c around b t n turns in
-      let here : Place → Type 0 = Inside c around (choose_else spot test a b) k in
+      let here : Option Statement → Place → Type 0 = Inside c around (choose_else spot test a b) k n in
       let s = went_on (split spot test k) (λ arms. if holds n a then if_reached None arms.holds find else if_reached None arms.fails other) p e in
       let arms : Branches = s.0 in
-      in_either here (holds n a) (if_reached None arms.holds find) (if_reached None arms.fails other) (each_around n a) (each_around n b) turns p
+      in_either here (holds n a) (if_reached None arms.holds find) (if_reached None arms.fails other) (statement_in a n) (statement_in b n) (each_around n a) (each_around n b) turns p
       (λ f. let r = was_reached arms.holds find p f in
-      tells_more (There c around a r.0) here (λ q i. (arms, s.1, inl (r.0, r.1, i))) (are_chosen (each_around n a) turns) p (block_inside c around a r.0 n turns p r.2))
+      tells_more (There c around a r.0 n (statement_in a n)) (here (statement_in a n)) (λ q i. (((arms, s.1, inl (r.0, r.1, i.0.0)), i.0.1), i.1)) (are_chosen (each_around n a) turns) p
+      (block_inside c around a r.0 n turns p r.2))
       (λ g. let r = was_reached arms.fails other p g in
-      tells_more (There c around b r.0) here (λ q i. (arms, s.1, inr (r.0, r.1, i))) (are_chosen (each_around n b) turns) p (block_inside c around b r.0 n turns p r.2))
+      tells_more (There c around b r.0 n (statement_in b n)) (here (statement_in b n)) (λ q i. (((arms, s.1, inr (r.0, r.1, i.0.0)), i.0.1), i.1)) (are_chosen (each_around n b) turns) p
+      (block_inside c around b r.0 n turns p r.2))
       s.2
   inside c around (locked spot x body) k n turns p e =
       let find : ℕ → Found = λ m. place_in_block c (with_locked m around) body k n turns in
+      let o : Option Statement = statement_in body n in
       let s = went_on (lock_rule c around spot x k) find p e in
-      tells_more (There c (with_locked s.0 around) body k) (Inside c around (locked spot x body) k) (λ q i. (s.0, s.1, i)) (are_chosen (each_around n body) turns) p
+      tells_more (There c (with_locked s.0 around) body k n o) (Inside c around (locked spot x body) k n o) (λ q i. (((s.0, s.1, i.0.0), i.0.1), i.1)) (are_chosen (each_around n body) turns) p
       (block_inside c (with_locked s.0 around) body k n turns p s.2)
   inside c around (for_ spot x e1 e2 keeps body) k n turns p e =
       let find : Facts → Found = λ t. place_in_block c (with_fixed x around) body t n turns in
+      let o : Option Statement = statement_in body n in
       let s = went_on (for_limits around spot x e1 e2 keeps k) (λ l. if_reached None (for_head x l keeps body k) find) p e in
       let l : Limits = s.0 in
       let r = was_reached (for_head x l keeps body k) find p s.2 in
-      tells_more (There c (with_fixed x around) body r.0) (Inside c around (for_ spot x e1 e2 keeps body) k) (λ q i. (l, s.1, (r.0, r.1, i))) (are_chosen (each_around n body) turns) p
+      tells_more (There c (with_fixed x around) body r.0 n o) (Inside c around (for_ spot x e1 e2 keeps body) k n o) (λ q i. (((l, s.1, (r.0, r.1, i.0.0)), i.0.1), i.1)) (are_chosen (each_around n body) turns) p
       (block_inside c (with_fixed x around) body r.0 n turns p r.2)
   inside c around (for_each spot x v last body) k n turns p e =
       let check : Facts → Result Verdict Fault = accept_block c (with_fixed x around) body in
       let find : List ℕ → Facts → Found = λ inner t. place_in_block c (with_fixed x around) body t n inner in
-      let here : Place → Type 0 = Inside c around (for_each spot x v last body) k in
+      let o : Option Statement = statement_in body n in
+      let here : Place → Type 0 = Inside c around (for_each spot x v last body) k n o in
       let s = went_on (each_begins around spot x v last) (λ count. in_turns count x v check find k turns) p e in
       turns_tell here (are_chosen (each_around n body)) s.0 x v check find k turns p
-      (λ inner turn lt t at q i. tells_more (There c (with_fixed x around) body t) here (λ r j. (s.0, s.1, (turn, lt, (t, at, j)))) (are_chosen (each_around n body) inner) q
+      (λ inner turn lt t at q i. tells_more (There c (with_fixed x around) body t n o) here (λ r j. (((s.0, s.1, (turn, lt, (t, at, j.0.0))), j.0.1), j.1)) (are_chosen (each_around n body) inner) q
       (block_inside c (with_fixed x around) body t n inner q i))
       s.2
   inside c around (while_ spot test most x keeps body) k n turns p e =
       let find : Facts → Found = λ t. place_in_block c around body t n turns in
+      let o : Option Statement = statement_in body n in
       let s = went_on (while_head around.body spot most x keeps body k) (λ top. go_on (split spot test top) (λ arms. if_reached None arms.holds find)) p e in
       let top : Facts = s.0 in
       let q = went_on (split spot test top) (λ arms. if_reached None arms.holds find) p s.2 in
       let arms : Branches = q.0 in
       let r = was_reached arms.holds find p q.2 in
-      tells_more (There c around body r.0) (Inside c around (while_ spot test most x keeps body) k) (λ j i. (top, s.1, (arms, q.1, (r.0, r.1, i)))) (are_chosen (each_around n body) turns) p
+      tells_more (There c around body r.0 n o) (Inside c around (while_ spot test most x keeps body) k n o) (λ j i. (((top, s.1, (arms, q.1, (r.0, r.1, i.0.0))), i.0.1), i.1)) (are_chosen (each_around n body) turns) p
       (block_inside c around body r.0 n turns p r.2)
-  inside c around (assign spot x v) k n turns p e = absurd (cc)
-  inside c around (set_register spot r e1 e2 e3) k n turns p e = absurd (cc)
-  inside c around (single spot size f r move) k n turns p e = absurd (cc)
-  inside c around (address_scan spot f r1 r2 max x) k n turns p e = absurd (cc)
-  inside c around (q_stop spot f r t max x) k n turns p e = absurd (cc)
-  inside c around (q_repeat spot f r t max limit x) k n turns p e = absurd (cc)
-  inside c around (put spot v) k n turns p e = absurd (cc)
-  inside c around (crate_call spot which v) k n turns p e = absurd (cc)
-  inside c around (lam_call spot which l) k n turns p e = absurd (cc)
-  inside c around (call spot q es) k n turns p e = absurd (cc)
+  inside c around s k n turns p e = absurd (cc)
 
   block_inside : (c : Context) (around : Around) (b : Block) (k : Facts) (n : ℕ) (turns : List ℕ) (p : Place) → place_in_block c around b k n turns ≡ Ok (Some p)
-      → Tells (There c around b k) (are_chosen (each_around n b) turns) p
+      → Tells (There c around b k n (statement_in b n)) (are_chosen (each_around n b) turns) p
   block_inside c around done k n turns p e = absurd (cc)
   block_inside c around (next s rest) k n turns p e =
       let find : Facts → Found = λ t. place_in_block c around rest t n turns in
-      let there : Place → Type 0 = There c around (next s rest) k in
+      let there : Option Statement → Place → Type 0 = There c around (next s rest) k n in
       let here : Found = if begins_at n s then Ok (Some (place around s k)) else place_inside c around s k n turns in
+      let named : Option Statement = if begins_at n s then Some s else statement_inside s n in
       let loops : List EachLoop = if begins_at n s then [] else each_inside n s in
-      in_either there (holds_at n s) here (go_on (accept_statement c around s k) (λ v. if_reached None v.after find)) loops (each_around n rest) turns p
-      (by_choice there (begins_at n s) (each_inside n s) turns (place around s k) p (place_inside c around s k n turns) (inl refl)
-      (λ f. tells_more (Inside c around s k) there (λ q i. inr (inl i)) (are_chosen (each_inside n s) turns) p (inside c around s k n turns p f)))
+      in_either there (holds_at n s) here (go_on (accept_statement c around s k) (λ v. if_reached None v.after find)) named (statement_in rest n) loops (each_around n rest) turns p
+      (by_choice there (begins_at n s) (statement_inside s n) (each_inside n s) turns (place around s k) p (place_inside c around s k n turns)
+      (λ begins. ((inl refl, begins), record { statement = refl; body = refl }))
+      (λ f. tells_more (Inside c around s k n (statement_inside s n)) (there (statement_inside s n)) (λ q i. ((inr (inl i.0.0), i.0.1), i.1)) (are_chosen (each_inside n s) turns) p (inside c around s k n turns p f)))
       (λ g. let v = went_on (accept_statement c around s k) (λ w. if_reached None w.after find) p g in
       let found : Verdict = v.0 in
       let r = was_reached found.after find p v.2 in
-      tells_more (There c around rest r.0) there (λ q i. inr (inr (found, v.1, (r.0, r.1, i)))) (are_chosen (each_around n rest) turns) p (block_inside c around rest r.0 n turns p r.2))
+      tells_more (There c around rest r.0 n (statement_in rest n)) (there (statement_in rest n)) (λ q i. ((inr (inr (found, v.1, (r.0, r.1, i.0.0))), i.0.1), i.1)) (are_chosen (each_around n rest) turns) p
+      (block_inside c around rest r.0 n turns p r.2))
       e
+
+block_told : (c : Context) (around : Around) (b : Block) (k : Facts) (n : ℕ) (turns : List ℕ) (p : Place) → place_in_block c around b k n turns ≡ Ok (Some p)
+    → IsTold (There c around b k n (statement_in b n)) p
+block_told c around b k n turns p e = is_told (There c around b k n (statement_in b n)) (are_chosen (each_around n b) turns) p (block_inside c around b k n turns p e)
+
+pub placed_in : (c : Context) (around : Around) (b : Block) (k : Facts) (n : ℕ) (turns : List ℕ) (p : Place) → place_in_block c around b k n turns ≡ Ok (Some p)
+    → IsPlaced (statement_in b n) around.body p
+placed_in c around b k n turns p e =
+    told_placed (statement_in b n) around.body p
+    (told_more (There c around b k n (statement_in b n)) (IsPlaced (statement_in b n) around.body) (λ q i. i.1) p (block_told c around b k n turns p e))
 
 pub places_are_found : PlacesAreFound
 places_are_found c around block start n turns p are e =
-    subst (λ b. Tells (There c around block start) b p) are (block_inside c around block start n turns p e)
+    (subst (λ b. Tells (There c around block start n (statement_in block n)) b p) are (block_inside c around block start n turns p e)).0
 
 pub turns_are_told : TurnsAreTold
 turns_are_told c around block start n turns told e =
-    is_told (There c around block start) (are_chosen (each_around n block) turns) told (block_inside c around block start n turns told e)
+    told_more (There c around block start n (statement_in block n)) (IsAt c around block start n) (λ q i. i.0) told (block_told c around block start n turns told e)

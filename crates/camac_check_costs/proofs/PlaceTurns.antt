@@ -20,8 +20,7 @@ use Rattle.camac_rules.specs.Refusal.{go_on, if_reached}
 use Rattle.camac_rules.specs.Statements.{accept_statement, accept_block}
 use Rattle.camac_rules.proofs.Joined.{range_at-hulls, region_at-join}
 use Rattle.camac_check_costs.specs.Places.{Place, place, at_turn, begins_at, holds, holds_at, locked_in_both, place_of_both, told_of_both, left_by, over_turns, in_turns, place_inside, place_in_block, IsSetSo, HoldsAt, IsCovered, TurnsAreCovered}
-use Rattle.camac_check_costs.proofs.PlaceLaws.{Found, went_on, was_reached, if_so}
-use Rattle.camac_check_costs.proofs.PlaceStatements.{IsPlaced, body_of_both, placed_in, statement_in}
+use Rattle.camac_check_costs.proofs.PlaceLaws.{Found, IsPlaced, body_of_both, if_so, placed_in, statement_in, was_reached, went_on}
 
 -- ---- of two places
 
@@ -96,7 +95,7 @@ itself p = record { statement = refl; body = refl; ranges = λ x v w. w; registe
 
 -- ---- over turns
 
-covers_itself : (f : Found) (p : Place) → f ≡ Ok (Some p) → IsCovered p f
+pub covers_itself : (f : Found) (p : Place) → f ≡ Ok (Some p) → IsCovered p f
 covers_itself f p e = subst (IsCovered p) (sym e) (itself p)
 
 abbrev IfNumbered : Option Statement → Body → Option Place → Type 0
@@ -175,7 +174,7 @@ came check x v turn k t e = go (check (with_range x (only v) k)) e
     go (Err f) h = absurd (let bad : ◌≡◌ {A = Result Known Fault} (Err f) (Ok (Some t)) = h in cc)
 
 -- what is told over all turns holds in this one
-turn_covered : (s : Option Statement) (b : Body) (p : Place) (count x v : ℕ) (check : Facts → Result Verdict Fault) (find : Facts → Found) (k : Facts) (so_far : Option Place)
+pub turn_covered : (s : Option Statement) (b : Body) (p : Place) (count x v : ℕ) (check : Facts → Result Verdict Fault) (find : Facts → Found) (k : Facts) (so_far : Option Place)
     → ((t : Facts) (q : Place) → find t ≡ Ok (Some q) → IsPlaced s b q) → IfNumbered s b so_far
     → (turn : ℕ) → turn < count → (t : Facts) → at_turn check x v turn k ≡ Ok (Some t) → IsCovered p (find t) → IsCovered p (over_turns count x v check find k so_far)
 unfolding if_reached

@@ -1,5 +1,5 @@
 -- The place of a statement, from what the statements before it come to.
-use Rattle.std.proofs.Common.{◌≡◌, ℕ, ◌<◌, ◌≤◌, ◌+◌, true, false, List, [], Option, Some, None, Result, Ok, drop, length, map, option_map, slice_get, sym, ap, ◌∙◌}
+use Rattle.std.proofs.Common.{◌≡◌, ℕ, ◌<◌, ◌≤◌, ◌+◌, true, false, List, [], Option, Some, None, Result, Ok, drop, length, map, option_map, refl, slice_get, sym, ap, ◌∙◌}
 use Rattle.std.specs.Prelude.{◌||◌, get_or, if◌then◌else◌}
 use Rattle.std.proofs.lemmas.List.{drop_all}
 use Rattle.std.proofs.lemmas.Option.{slice_get-map}
@@ -9,7 +9,7 @@ use Rattle.camac_check_known.specs.declared.fault.CheckFault.{CheckFault}
 use Rattle.camac_rules.specs.Costs.{Verdict, unreached}
 use Rattle.camac_rules.specs.Cycles.{Context, Around}
 use Rattle.camac_rules.specs.Fault.{Fault}
-use Rattle.camac_rules.specs.Known.{Facts}
+use Rattle.camac_rules.specs.Known.{Facts, Known}
 use Rattle.camac_rules.specs.Refusal.{go_on, if_reached}
 use Rattle.camac_rules.specs.Statements.{accept_statement}
 use Rattle.camac_check_simple.specs.Gives.{Fails}
@@ -47,41 +47,39 @@ around_none left xs i le = ap (λ l. each_around left (statements_of l)) (drop_a
 
 -- ---- places
 
-module _ (c : Context) (around : Around) (xs : List Stmt) (i : ℕ) (x : Stmt) (k : Facts) (left : ℕ) (turns : List ℕ) (h : i < length xs) (is : x ≡ get_or xs i x) where
-  abbrev after : Result Verdict Fault → Result (Option Place) Fault
-  after q = go_on q (λ v. if_reached None v.after (λ t. place_in_block c around (statements_of (drop (i + 1) xs)) t left turns))
+module _ (c : Context) (around : Around) (xs : List Stmt) (i : ℕ) (left : ℕ) (turns : List ℕ) where
+  abbrev from : ℕ → Known → Result (Option Place) Fault
+  from n o = if_reached None o (λ k. place_in_block c around (statements_of (drop n xs)) k left turns)
 
-  there : place_in_block c around (statements_of (drop i xs)) k left turns
-      ≡ (if holds_at left (statement_of x) then place_in c around (statement_of x) k left turns else after (accept_statement c around (statement_of x) k))
-  there = ap (λ b. place_in_block c around b k left turns) (next_of xs i x h is)
+  pub place_done : (o : Known) → length xs ≤ i → from i o ≡ Ok None
+  unfolding if_reached
+  place_done None le = refl
+  place_done (Some k) le = ap (λ l. place_in_block c around (statements_of l) k left turns) (drop_all i xs le)
 
-  behind : holds_at left (statement_of x) ≡ false → place_in_block c around (statements_of (drop i xs)) k left turns ≡ after (accept_statement c around (statement_of x) k)
-  behind e = there ∙ ap (λ b. if b then place_in c around (statement_of x) k left turns else after (accept_statement c around (statement_of x) k)) e
+  module _ (x : Stmt) (h : i < length xs) (is : x ≡ get_or xs i x) where
+    abbrev after : Result Verdict Fault → Result (Option Place) Fault
+    after q = go_on q (λ v. from (i + 1) v.after)
 
-  pub place_here : holds_at left (statement_of x) ≡ true → place_in_block c around (statements_of (drop i xs)) k left turns ≡ place_in c around (statement_of x) k left turns
-  place_here e = there ∙ ap (λ b. if b then place_in c around (statement_of x) k left turns else after (accept_statement c around (statement_of x) k)) e
+    there : (k : Facts) → from i (Some k) ≡ (if holds_at left (statement_of x) then place_in c around (statement_of x) k left turns else after (accept_statement c around (statement_of x) k))
+    unfolding if_reached
+    there k = ap (λ b. place_in_block c around b k left turns) (next_of xs i x h is)
 
-  pub place_on : (v : Verdict) (t : Facts) → holds_at left (statement_of x) ≡ false → if_reached unreached (Some k) (accept_statement c around (statement_of x)) ≡ Ok v
-      → v.after ≡ Some t → place_in_block c around (statements_of (drop (i + 1) xs)) t left turns ≡ place_in_block c around (statements_of (drop i xs)) k left turns
-  unfolding go_on if_reached
-  place_on v t e one reached =
-      sym (behind e ∙ ap after one ∙ ap (λ o. if_reached None o (λ u. place_in_block c around (statements_of (drop (i + 1) xs)) u left turns)) reached)
+    behind : (k : Facts) → holds_at left (statement_of x) ≡ false → from i (Some k) ≡ after (accept_statement c around (statement_of x) k)
+    behind k e = there k ∙ ap (λ b. if b then place_in c around (statement_of x) k left turns else after (accept_statement c around (statement_of x) k)) e
 
-  pub place_ends : (v : Verdict) → holds_at left (statement_of x) ≡ false → if_reached unreached (Some k) (accept_statement c around (statement_of x)) ≡ Ok v
-      → v.after ≡ None → place_in_block c around (statements_of (drop i xs)) k left turns ≡ Ok None
-  unfolding go_on if_reached
-  place_ends v e one reached =
-      behind e ∙ ap after one ∙ ap (λ o. if_reached None o (λ u. place_in_block c around (statements_of (drop (i + 1) xs)) u left turns)) reached
+    pub place_here : (k : Facts) → holds_at left (statement_of x) ≡ true → from i (Some k) ≡ place_in c around (statement_of x) k left turns
+    place_here k e = there k ∙ ap (λ b. if b then place_in c around (statement_of x) k left turns else after (accept_statement c around (statement_of x) k)) e
 
-  pub place_refused : (f : CheckFault) → holds_at left (statement_of x) ≡ false → Fails f (if_reached unreached (Some k) (accept_statement c around (statement_of x)))
-      → Fails f (place_in_block c around (statements_of (drop i xs)) k left turns)
-  unfolding go_on if_reached
-  place_refused OutOfMemory e one = tt
-  place_refused (Broken rule spot case) e one = behind e ∙ ap after one
+    pub place_on : (o : Known) (v : Verdict) → holds_at left (statement_of x) ≡ false → if_reached unreached o (accept_statement c around (statement_of x)) ≡ Ok v → from (i + 1) v.after ≡ from i o
+    unfolding go_on if_reached
+    place_on None v e one = let same : v ≡ unreached = cc in ap (λ (w : Verdict). from (i + 1) w.after) same
+    place_on (Some k) v e one = sym (behind k e ∙ ap after one)
 
-pub place_done : (c : Context) (around : Around) (xs : List Stmt) (i : ℕ) (k : Facts) (left : ℕ) (turns : List ℕ) → length xs ≤ i
-    → place_in_block c around (statements_of (drop i xs)) k left turns ≡ Ok None
-place_done c around xs i k left turns le = ap (λ l. place_in_block c around (statements_of l) k left turns) (drop_all i xs le)
+    pub place_refused : (o : Known) (f : CheckFault) → holds_at left (statement_of x) ≡ false → Fails f (if_reached unreached o (accept_statement c around (statement_of x))) → Fails f (from i o)
+    unfolding go_on if_reached
+    place_refused o OutOfMemory e one = tt
+    place_refused None (Broken rule spot case) e one = absurd (cc)
+    place_refused (Some k) (Broken rule spot case) e one = behind k e ∙ ap after one
 
 -- ---- names
 

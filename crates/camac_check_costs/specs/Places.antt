@@ -1,10 +1,11 @@
 -- Where the checker comes while it judges a body, and the place of a statement by its spot.
-use Rattle.std.specs.Prelude.{◌≡◌, ◌⊎◌, ℕ, zero, suc, ◌+◌, ◌-◌, ◌<◌, Bool, true, false, ◌&&◌, ◌||◌, List, [], ◌∷◌, ◌++◌, Option, Some, None, Result, Ok, Err, nat_eq, nat_le, nat_lt, if◌then◌else◌}
+use Rattle.std.specs.Prelude.{◌≡◌, ◌⊎◌, ℕ, zero, suc, ◌+◌, ◌-◌, ◌<◌, ◌≤◌, Bool, true, false, ◌&&◌, ◌||◌, List, [], ◌∷◌, ◌++◌, Option, Some, None, Result, Ok, Err, nat_eq, nat_le, nat_lt, if◌then◌else◌}
 use Rattle.camac_lang.specs.declared.spot.Spot.{Spot}
 use Rattle.camac_lang.specs.Tree.{Statement, choose, choose_else, for_, for_each, while_, locked, Block, done, next, Script, spot_of}
 use Rattle.camac_range.specs.Interval.{Interval, only, IsWithin}
 use Rattle.camac_branch.specs.Plan.{Layout}
 use Rattle.camac_model.specs.Fine.{Bounds}
+use Rattle.camac_rules.specs.declared.case.Body.{Body}
 use Rattle.camac_rules.specs.declared.case.Body.TheVariants as body
 use Rattle.camac_rules.specs.Accept.{Section, of_procedure, of_service, at_start, bare, own_body, with_procedure}
 use Rattle.camac_rules.specs.Addresses.{crate_end, is_among}
@@ -211,44 +212,45 @@ abbrev mutual
 abbrev pub place_in : Context → Around → Statement → Facts → (left : ℕ) → (turns : List ℕ) → Result (Option Place) Fault
 place_in c around s k left turns = if begins_at left s then Ok (Some (place around s k)) else place_inside c around s k left turns
 
--- In the body of a procedure or service. How much its `each` loops judge is counted before the body is judged.
-abbrev pub place_of : Context → Section → (left : ℕ) → (turns : List ℕ) → Result (Option Place) Fault
-place_of c (of_procedure p) left turns = do
-  judged ← count_block (own_body c) p.body 0
-  if_reached None (at_entry p.parameters) (λ k. place_in_block c (alone_in (own_body c)) p.body k left turns)
-place_of c (of_service v) left turns = do
-  judged ← count_block (body.Service v.lam) v.body 0
-  place_in_block c (alone_in (body.Service v.lam)) v.body at_start left turns
+-- In a body, from what is known where it begins. How much its `each` loops judge is counted before it is judged.
+abbrev pub place_in_body : Context → Body → Block → Known → (left : ℕ) → (turns : List ℕ) → Result (Option Place) Fault
+place_in_body c whose b known left turns = do
+  judged ← count_block whose b 0
+  if_reached None known (λ k. place_in_block c (alone_in whose) b k left turns)
 
 -- in the first body that holds it
 abbrev pub place_over : Context → List Section → (left : ℕ) → (turns : List ℕ) → Result (Option Place) Fault
 place_over c [] left turns = Ok None
 place_over c (of_procedure p ∷ rest) left turns =
-    if holds left p.body then place_of c (of_procedure p) left turns else place_over (with_procedure p c) rest left turns
-place_over c (of_service v ∷ rest) left turns = if holds left v.body then place_of c (of_service v) left turns else place_over c rest left turns
+    if holds left p.body then place_in_body c (own_body c) p.body (at_entry p.parameters) left turns else place_over (with_procedure p c) rest left turns
+place_over c (of_service v ∷ rest) left turns =
+    if holds left v.body then place_in_body c (body.Service v.lam) v.body (Some at_start) left turns else place_over c rest left turns
 
 abbrev pub place_with : (Bounds → Bounds) → Layout → Script → (left : ℕ) → (turns : List ℕ) → Result (Option Place) Fault
 place_with limit plan s left turns = place_over (bare limit plan s) (sections_of s) left turns
 
 -- ---- laws
 
--- The place that is found is one to which the checker comes while it judges the block: where no `each` stands around the statement, and in turns that
--- are chosen.
+-- the checker comes to this place while it judges the block, and the statement there begins at this byte
+abbrev pub IsAt : Context → Around → Block → Facts → (left : ℕ) → Place → Type 0
+IsAt c around block start left p = BlockHasPlace c p around block start × (begins_at left p.statement ≡ true)
+
+-- The place that is found is such a one: where no `each` stands around the statement, and in turns that are chosen.
 abbrev pub PlacesAreFound : Type 0
 PlacesAreFound =
     (c : Context) (around : Around) (block : Block) (start : Facts) (left : ℕ) (turns : List ℕ) (p : Place) → are_chosen (each_around left block) turns ≡ true
-    → place_in_block c around block start left turns ≡ Ok (Some p) → BlockHasPlace c p around block start
+    → place_in_block c around block start left turns ≡ Ok (Some p) → IsAt c around block start left p
 
 -- of several places what is known at all of them, and no less
 pub data IsTold (P : Place → Type 0) : Place → Type 0 where
   at_one : (p : Place) → P p → IsTold P p
   at_both : (p q : Place) → IsTold P p → IsTold P q → IsTold P (place_of_both p q)
 
--- Over several turns that is told of places to which the checker comes.
+-- Over several turns that is told of such places.
 abbrev pub TurnsAreTold : Type 0
 TurnsAreTold =
     (c : Context) (around : Around) (block : Block) (start : Facts) (left : ℕ) (turns : List ℕ) (told : Place)
-    → place_in_block c around block start left turns ≡ Ok (Some told) → IsTold (λ p. BlockHasPlace c p around block start) told
+    → place_in_block c around block start left turns ≡ Ok (Some told) → IsTold (IsAt c around block start left) told
 
 -- each number of a range is one of those that are told
 abbrev pub IsPart : Interval → Interval → Type 0
@@ -278,6 +280,28 @@ abbrev pub IsCovered : Place → Result (Option Place) Fault → Type 0
 IsCovered p (Ok None) = ⊥
 IsCovered p (Ok (Some told)) = HoldsAt p told
 IsCovered p (Err refusal) = Unit {0}
+
+abbrev mutual
+  -- how many statements in it begin there
+  pub begin_inside : (left : ℕ) → Statement → ℕ
+  begin_inside left (choose spot test a) = begin_in left a
+  begin_inside left (choose_else spot test a b) = begin_in left a + begin_in left b
+  begin_inside left (for_ spot x e1 e2 keeps body) = begin_in left body
+  begin_inside left (for_each spot x v last body) = begin_in left body
+  begin_inside left (while_ spot test most x keeps body) = begin_in left body
+  begin_inside left (locked spot e body) = begin_in left body
+  begin_inside left s = 0
+
+  pub begin_in : (left : ℕ) → Block → ℕ
+  begin_in left done = 0
+  begin_in left (next s rest) = (if begins_at left s then 1 else 0) + begin_inside left s + begin_in left rest
+
+-- Where one statement begins at a byte, `not reached` is told exactly if the checker does not come to it: at each place to which it comes holds what is
+-- told.
+abbrev pub PlacesAreReached : Type 0
+PlacesAreReached =
+    (c : Context) (around : Around) (block : Block) (start : Facts) (left : ℕ) (p : Place) → begin_in left block ≤ 1
+    → IsAt c around block start left p → IsCovered p (place_in_block c around block start left [])
 
 -- What is told over all turns holds in each of them.
 abbrev pub TurnsAreCovered : Type 0

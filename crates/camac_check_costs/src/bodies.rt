@@ -97,23 +97,19 @@ fn push_bodies(
 {
     match items {
         [] => Ok(()),
-        [Item::Procedure, rest @ ..] => match whole.procedures.get(done) {
-            None => push_bodies(alloc, whole, rest, done, services, served, all),
-            Some(procedure) => {
+        [item, rest @ ..] => match (item, whole.procedures.get(done), services) {
+            (Item::Procedure, Some(procedure), _) => {
                 let here = whole.after(done);
                 all.push(procedure_costs(alloc, &here, done, procedure)?)?;
                 push_bodies(alloc, whole, rest, done + 1, services, served, all)
             }
-        },
-        [Item::Service, rest @ ..] => match services {
-            [] => push_bodies(alloc, whole, rest, done, services, served, all),
-            [service, others @ ..] => {
+            (Item::Service, _, [service, others @ ..]) => {
                 let here = whole.after(done);
                 all.push(service_costs(alloc, &here, served, service)?)?;
                 push_bodies(alloc, whole, rest, done, others, served + 1, all)
             }
+            _ => push_bodies(alloc, whole, rest, done, services, served, all),
         },
-        [_, rest @ ..] => push_bodies(alloc, whole, rest, done, services, served, all),
     }
 }
 

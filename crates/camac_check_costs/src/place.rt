@@ -3,12 +3,12 @@
 ghost use Rattle.std.specs.Prelude.{◌≡◌, ◌≤◌, None, [], drop, false, length, map, nat_eq};
 ghost use Rattle.camac_lang.specs.Tree.{for_each};
 ghost use Rattle.camac_lang.specs.View.{item_of, procedure_of, service_of, statement_of, statements_of};
-ghost use Rattle.camac_rules.specs.Accept.{of_procedure, of_service, sections};
+ghost use Rattle.camac_rules.specs.Accept.{sections};
 ghost use Rattle.camac_rules.specs.Capped.{capped};
 ghost use Rattle.camac_rules.specs.Refusal.{if_reached};
 ghost use Rattle.camac_check_simple.specs.Gives.{Gives, by_code, code_before};
 ghost use Rattle.camac_check_costs.specs.Stands.{place_found};
-ghost use Rattle.camac_check_costs.specs.Places.{holds, holds_at, place_in, place_in_block, place_of, place_over, place_with};
+ghost use Rattle.camac_check_costs.specs.Places.{holds, holds_at, place_in, place_in_block, place_in_body, place_over, place_with};
 
 use crate::told::{known_at_turn, left_by, told_of_both};
 use camac_branch::Plan;
@@ -17,7 +17,7 @@ use camac_check_known::{Around, Facts, between, split};
 use camac_check_loops::{EachHead, count_block, each_begins, for_limits, while_head};
 use camac_check_rows::Rows;
 use camac_check_simple::{Place, lock_crate};
-use camac_lang::{Item, Procedure, Script, Service, Spot, Stmt};
+use camac_lang::{Item, Script, Service, Spot, Stmt};
 use camac_rules::Body;
 use std::alloc::Global;
 
@@ -63,60 +63,46 @@ fn place_over<'a>(
 {
     match items {
         [] => Ok(None),
-        [Item::Procedure, rest @ ..] => match whole.procedures.get(done) {
-            None => place_over(alloc, whole, rest, done, services, left, turns),
-            Some(procedure) => {
-                if holds(&procedure.body, left) {
-                    return place_in_procedure(alloc, &whole.after(done), procedure, left, turns);
+        [item, rest @ ..] => match (item, whole.procedures.get(done), services) {
+            (Item::Procedure, Some(procedure), _) => {
+                if !holds(&procedure.body, left) {
+                    return place_over(alloc, whole, rest, done + 1, services, left, turns);
                 }
-                place_over(alloc, whole, rest, done + 1, services, left, turns)
+                let here = whole.after(done);
+                let body = Body::Procedure(here.procedures.len());
+                let known = at_entry(alloc, &procedure.parameters)?;
+                place_in_body(alloc, &here, body, &procedure.body, known, left, turns)
             }
-        },
-        [Item::Service, rest @ ..] => match services {
-            [] => place_over(alloc, whole, rest, done, services, left, turns),
-            [service, others @ ..] => {
-                if holds(&service.body, left) {
-                    return place_in_service(alloc, &whole.after(done), service, left, turns);
+            (Item::Service, _, [service, others @ ..]) => {
+                if !holds(&service.body, left) {
+                    return place_over(alloc, whole, rest, done, others, left, turns);
                 }
-                place_over(alloc, whole, rest, done, others, left, turns)
+                let here = whole.after(done);
+                let body = Body::Service(service.lam);
+                let known = Some(Facts::at_start(alloc));
+                place_in_body(alloc, &here, body, &service.body, known, left, turns)
             }
+            _ => place_over(alloc, whole, rest, done, services, left, turns),
         },
-        [_, rest @ ..] => place_over(alloc, whole, rest, done, services, left, turns),
     }
 }
 
+// The same in a body, from what is known where it begins.
 #[tactic(auto, unfolding(camac_rules::specs::Refusal::go_on))]
-fn place_in_procedure<'a>(
+fn place_in_body<'a>(
     alloc: Global,
     context: &Context,
-    procedure: &'a Procedure,
+    body: Body,
+    block: &'a [Stmt],
+    known: Option<Facts>,
     left: usize,
     turns: &[u32],
 ) -> Result<Option<Standing<'a>>, CheckFault>
-    ensures { Gives place_found result (place_of (by_code context.now) (of_procedure (procedure_of procedure.now)) left turns.now) }
+    ensures { Gives place_found result (place_in_body (by_code context.now) body (statements_of block.now) known left turns.now) }
 {
-    let body = Body::Procedure(context.procedures.len());
-    count_block(body, &procedure.body, 0)?;
+    count_block(body, block, 0)?;
     let around = Around::alone_in(alloc, body);
-    let known = at_entry(alloc, &procedure.parameters)?;
-    place_if_reached(alloc, context, around, &procedure.body, known, left, turns)
-}
-
-#[tactic(auto, unfolding(camac_rules::specs::Refusal::go_on))]
-fn place_in_service<'a>(
-    alloc: Global,
-    context: &Context,
-    service: &'a Service,
-    left: usize,
-    turns: &[u32],
-) -> Result<Option<Standing<'a>>, CheckFault>
-    ensures { Gives place_found result (place_of (by_code context.now) (of_service (service_of service.now)) left turns.now) }
-{
-    let body = Body::Service(service.lam);
-    count_block(body, &service.body, 0)?;
-    let around = Around::alone_in(alloc, body);
-    let known = Facts::at_start(alloc);
-    place_in_block(alloc, context, around, &service.body, known, left, turns)
+    place_in_block(alloc, context, around, block, known, left, turns)
 }
 
 // Whether a statement begins there, or one in it.
@@ -138,16 +124,7 @@ pub(crate) fn is_in(statement: &Stmt, left: usize) -> bool
         | Stmt::ForEach { body, .. }
         | Stmt::While { body, .. }
         | Stmt::Lock { body, .. } => holds(body, left),
-        Stmt::Assign(_)
-        | Stmt::SetRegister(_)
-        | Stmt::Single(_)
-        | Stmt::Scan(_)
-        | Stmt::QStop { .. }
-        | Stmt::QRepeat { .. }
-        | Stmt::Put(_)
-        | Stmt::CrateCall(_)
-        | Stmt::LamCall(_)
-        | Stmt::Call(_) => false,
+        _ => false,
     }
 }
 
@@ -164,46 +141,10 @@ pub(crate) fn holds(block: &[Stmt], left: usize) -> bool
     false
 }
 
-// The place of the statement that is looked for, in a block that can be reached.
+// The place of the statement that is looked for, in a block, if that can be reached.
 #[cycle(places)]
-#[tactic(auto, using(crate::proofs::Placed::place_here, crate::proofs::Placed::place_on, crate::proofs::Placed::place_ends, crate::proofs::Placed::place_refused, crate::proofs::Placed::place_done))]
+#[tactic(auto, using(crate::proofs::Placed::place_here, crate::proofs::Placed::place_on, crate::proofs::Placed::place_refused, crate::proofs::Placed::place_done), unfolding(camac_rules::specs::Refusal::if_reached))]
 fn place_in_block<'a>(
-    alloc: Global,
-    context: &Context,
-    around: Around,
-    block: &'a [Stmt],
-    known: Facts,
-    left: usize,
-    turns: &[u32],
-) -> Result<Option<Standing<'a>>, CheckFault>
-    ensures { Gives place_found result (place_in_block (by_code context.now) around (statements_of block.now) known left turns.now) }
-{
-    let mut here = known;
-    'statements: for statement in block {
-        if is_in(statement, left) {
-            return place_in(alloc, context, around, statement, here, left, turns);
-        }
-        let mut after = Some(here);
-        accept_next(
-            alloc,
-            context,
-            &around,
-            statement,
-            &mut after,
-            &mut Rows::none(),
-        )?;
-        here = match after {
-            None => return Ok(None),
-            Some(known) => known,
-        };
-    }
-    Ok(None)
-}
-
-// The same, if it can be reached.
-#[cycle(places)]
-#[tactic(auto, unfolding(camac_rules::specs::Refusal::if_reached))]
-fn place_if_reached<'a>(
     alloc: Global,
     context: &Context,
     around: Around,
@@ -214,10 +155,18 @@ fn place_if_reached<'a>(
 ) -> Result<Option<Standing<'a>>, CheckFault>
     ensures { Gives place_found result (if_reached None known (λ k. place_in_block (by_code context.now) around (statements_of block.now) k left turns.now)) }
 {
-    match known {
-        Some(known) => place_in_block(alloc, context, around, block, known, left, turns),
-        None => Ok(None),
+    let mut here = known;
+    let mut rows = Rows::none();
+    'statements: for statement in block {
+        if is_in(statement, left) {
+            let Some(known) = here else {
+                return Ok(None);
+            };
+            return place_in(alloc, context, around, statement, known, left, turns);
+        }
+        accept_next(alloc, context, &around, statement, &mut here, &mut rows)?;
     }
+    Ok(None)
 }
 
 // The same in a statement: itself, or one in it.
@@ -244,7 +193,7 @@ fn place_in<'a>(
     match statement {
         Stmt::If { spot, test, then } => {
             let ways = split(alloc, *spot, &test.parts, known)?;
-            place_if_reached(alloc, context, around, then, ways.holds, left, turns)
+            place_in_block(alloc, context, around, then, ways.holds, left, turns)
         }
         Stmt::IfElse {
             spot,
@@ -254,9 +203,9 @@ fn place_in<'a>(
         } => {
             let ways = split(alloc, *spot, &test.parts, known)?;
             if holds(then, left) {
-                place_if_reached(alloc, context, around, then, ways.holds, left, turns)
+                place_in_block(alloc, context, around, then, ways.holds, left, turns)
             } else {
-                place_if_reached(alloc, context, around, otherwise, ways.fails, left, turns)
+                place_in_block(alloc, context, around, otherwise, ways.fails, left, turns)
             }
         }
         Stmt::Lock {
@@ -270,13 +219,13 @@ fn place_in<'a>(
             };
             let c = lock_crate(&place, *spot, crate_no, &known)?;
             let locked = around.with_locked(alloc, c)?;
-            place_in_block(alloc, context, locked, body, known, left, turns)
+            place_in_block(alloc, context, locked, body, Some(known), left, turns)
         }
         Stmt::For { head, body } => {
             let limits = for_limits(&around, head, &known)?;
             let fixed = around.with_fixed(alloc, head.variable)?;
             let facts = limits.facts(alloc, head, body, known)?;
-            place_if_reached(alloc, context, fixed, body, facts.head, left, turns)
+            place_in_block(alloc, context, fixed, body, facts.head, left, turns)
         }
         Stmt::ForEach {
             spot,
@@ -300,18 +249,9 @@ fn place_in<'a>(
         Stmt::While { head, body } => {
             let top = while_head(around.body(), head, body, known)?;
             let ways = split(alloc, head.spot, &head.test.parts, top)?;
-            place_if_reached(alloc, context, around, body, ways.holds, left, turns)
+            place_in_block(alloc, context, around, body, ways.holds, left, turns)
         }
-        Stmt::Assign(_)
-        | Stmt::SetRegister(_)
-        | Stmt::Single(_)
-        | Stmt::Scan(_)
-        | Stmt::QStop { .. }
-        | Stmt::QRepeat { .. }
-        | Stmt::Put(_)
-        | Stmt::CrateCall(_)
-        | Stmt::LamCall(_)
-        | Stmt::Call(_) => Ok(None),
+        _ => Ok(None),
     }
 }
 
@@ -339,7 +279,7 @@ fn place_in_each<'a>(
     }
     let fixed = place.around.with_fixed(alloc, head.variable)?;
     let begun = known_at_turn(alloc, place.context, &fixed, head, body, known, *value)?;
-    place_if_reached(alloc, place.context, fixed, body, begun, left, inner)
+    place_in_block(alloc, place.context, fixed, body, begun, left, inner)
 }
 
 // The same over all turns.
@@ -364,7 +304,8 @@ fn place_over_turns<'a>(
         here.put_range(head.variable, between(value, value))?;
         let fixed = place.around.with_fixed(alloc, head.variable)?;
         let begun = here.try_clone(alloc)?;
-        let found = match place_in_block(alloc, place.context, fixed, body, begun, left, &[]) {
+        let start = Some(begun);
+        let found = match place_in_block(alloc, place.context, fixed, body, start, left, &[]) {
             Ok(found) => found,
             Err(fault) => return Err(fault),
         };

@@ -143,16 +143,7 @@ fn push_each(loops: &mut Vec<EachLoop>, statement: &Stmt, left: usize) -> Result
         | Stmt::For { body, .. }
         | Stmt::While { body, .. }
         | Stmt::Lock { body, .. } => push_each_around(loops, body, left),
-        Stmt::Assign(_)
-        | Stmt::SetRegister(_)
-        | Stmt::Single(_)
-        | Stmt::Scan(_)
-        | Stmt::QStop { .. }
-        | Stmt::QRepeat { .. }
-        | Stmt::Put(_)
-        | Stmt::CrateCall(_)
-        | Stmt::LamCall(_)
-        | Stmt::Call(_) => Ok(()),
+        _ => Ok(()),
     }
 }
 

@@ -1,5 +1,6 @@
-use Rattle.std.proofs.Common.{◌≡◌, ◌+◌, ◌-◌, ◌<◌, ◌≤◌, ◌∙◌, [], None, Ok, length, take, drop, ap, ap₂, subst, sym, arith}
+use Rattle.std.proofs.Common.{◌≡◌, ◌+◌, ◌-◌, ◌<◌, ◌≤◌, ◌∙◌, [], None, Ok, Err, length, take, drop, ap, ap₂, subst, sym, arith}
 use Rattle.std.specs.Prelude.{get_or}
+use Rattle.std.proofs.lemmas.Result.{err_from_is_err_and}
 use Rattle.camac_lang.specs.Tree.{for_each}
 use Rattle.camac_lang.specs.View.{statements_of}
 use Rattle.camac_range.specs.Interval.{only}
@@ -11,44 +12,32 @@ use Rattle.camac_rules.specs.Statements.{accept_block}
 use Rattle.camac_check_simple.specs.Gives.{Fails, Gives, by_code}
 use Rattle.camac_check_costs.specs.Places.{at_turn, left_by, over_turns, place_in, place_in_block}
 use Rattle.camac_check_costs.specs.Stands.{place_found}
-use Rattle.camac_check_costs.proofs.Placed.{place_done, place_ends, place_here, place_on}
+use Rattle.camac_check_costs.proofs.Placed.{place_on, place_refused}
 use Rattle.camac_check_costs.proofs.TurnsTold.{first_and_rest, in_that_turn, left_is, no_turn, over_all, over_at, turn_ends, turn_fails, turn_told}
 use Rattle.camac_check_costs.proofs.place.+places.Goals as goal
 
-pub place_in_block-returns-then-is_in : goal.place_in_block-returns-then-is_in
-place_in_block-returns-then-is_in t c =
+pub place_in_block-returns-in_err-accept_next : goal.place_in_block-returns-in_err-accept_next
+place_in_block-returns-in_err-accept_next t c =
+    let context = by_code c.args.context.now in
     let xs = c.args.block.now in
     let i = c.statements.statement-index in
     let lt : i < length xs = omega arith in
-    subst (λ r. Gives place_found c.place_in.result r)
-    (sym (place_here (by_code c.args.context.now) c.statements.around xs i c.statement-item.result c.statements.here c.args.left c.args.turns.now lt c.statement-item.is (sym c.is_in.ensures ∙ c.if-is_in.true))
-    ∙ c.statements.invariant)
-    c.place_in.ensures
-
-pub place_in_block-returns-in-None : goal.place_in_block-returns-in-None
-place_in_block-returns-in-None t c =
-    let xs = c.args.block.now in
-    let i = c.statements.statement-index in
-    let lt : i < length xs = omega arith in
-    sym c.statements.invariant
-    ∙ place_ends (by_code c.args.context.now) c.statements.around xs i c.statement-item.result c.statements.here c.args.left c.args.turns.now lt c.statement-item.is
-    (verdict c.accept_next.new.known c.in_ok-accept_next.field-0) (sym c.is_in.ensures ∙ c.if-is_in.false) c.in_ok-accept_next.ensures.found c.in-None.is
+    let fault = c.in_err-accept_next.field-0.0 in
+    let p = err_from_is_err_and c.from_residual.result c.from_residual.ensures.1 in
+    subst (λ r. Gives place_found r (if_reached None c.args.known (λ k. place_in_block context c.args.around (statements_of xs) k c.args.left c.args.turns.now)))
+    (sym (p.1 ∙ ap (λ e. Err e) p.2))
+    (subst (λ r. Fails fault r) c.statements.invariant
+    (place_refused context c.statements.around xs i c.args.left c.args.turns.now c.statement-item.result lt c.statement-item.is c.statements.here fault
+    (sym c.is_in.ensures ∙ c.if-is_in.false) c.in_err-accept_next.ensures.found))
 
 pub place_in_block-statements-preserved : goal.place_in_block-statements-preserved
 place_in_block-statements-preserved t c =
     let xs = c.args.block.now in
     let i = c.statements.statement-index in
     let lt : i < length xs = omega arith in
-    place_on (by_code c.args.context.now) c.statements.around xs i c.statement-item.result c.statements.here c.args.left c.args.turns.now lt c.statement-item.is
-    (verdict c.accept_next.new.known c.in_ok-accept_next.field-0) c.in-Some.known (sym c.is_in.ensures ∙ c.if-is_in.false) c.in_ok-accept_next.ensures.found c.in-Some.is
+    place_on (by_code c.args.context.now) c.statements.around xs i c.args.left c.args.turns.now c.statement-item.result lt c.statement-item.is c.statements.here
+    (verdict c.accept_next.new.known c.in_ok-accept_next.field-0) (sym c.is_in.ensures ∙ c.if-is_in.false) c.in_ok-accept_next.ensures.found
     ∙ c.statements.invariant
-
-pub place_in_block-returns : goal.place_in_block-returns
-place_in_block-returns t c =
-    let xs = c.args.block.now in
-    let i = c.statements.statement-index in
-    let le : length xs ≤ i = omega arith in
-    sym c.statements.invariant ∙ place_done (by_code c.args.context.now) c.statements.around xs i c.statements.here c.args.left c.args.turns.now le
 
 pub place_in_each-returns : goal.place_in_each-returns
 place_in_each-returns t c =
@@ -64,11 +53,11 @@ place_in_each-returns t c =
     let lt : value - it.first < c.in_ok-count.count = omega (arith, c.if-count-value.false) in
     let known : at_turn (accept_block context inside body) it.variable it.first (value - it.first) c.args.known ≡ Ok c.in_ok-begun.begun =
     ap (λ a. at_turn (accept_block context a body) it.variable it.first (value - it.first) c.args.known) (sym c.in_ok-fixed.ensures) ∙ c.in_ok-begun.ensures in
-    subst (λ r. Gives place_found c.place_if_reached.result r)
+    subst (λ r. Gives place_found c.place_in_block.result r)
     (ap (λ a. if_reached None c.in_ok-begun.begun (λ k. place_in_block context a body k c.args.left inner)) c.in_ok-fixed.ensures
     ∙ sym (in_that_turn context around it body c.args.known c.args.left c.in_ok-count.count c.requires c.in_ok-count.ensures.rule value inner c.in_ok-begun.begun le lt known)
     ∙ ap (λ ts. place_in context around (for_each it.spot it.variable it.first it.last body) c.args.known c.args.left ts) (sym (first_and_rest turns c.in-len1-up.len_at_least)))
-    c.place_if_reached.ensures
+    c.place_in_block.ensures
 
 pub place_over_turns-turns-init : goal.place_over_turns-turns-init
 place_over_turns-turns-init t c =
@@ -82,6 +71,7 @@ place_over_turns-turns-init t c =
     over_at (turns - 0) turns it.variable (it.first + 0) it.first check find c.args.known None (omega arith) (omega arith)
 
 pub place_over_turns-turns-preserved : goal.place_over_turns-turns-preserved
+unfolding if_reached
 place_over_turns-turns-preserved t c =
     let context = by_code c.args.place.now.context.now in
     let it = c.args.head in
@@ -104,6 +94,7 @@ place_over_turns-turns-preserved t c =
     ∙ c.turns.invariant
 
 pub place_over_turns-returns-in-Err : goal.place_over_turns-returns-in-Err
+unfolding if_reached
 place_over_turns-returns-in-Err t c =
     let context = by_code c.args.place.now.context.now in
     let it = c.args.head in
@@ -122,6 +113,7 @@ place_over_turns-returns-in-Err t c =
     (subst (λ r. Fails c.in-Err.fault r) (ap₂ (λ a k. place_in_block context a body k c.args.left []) c.in_ok-fixed.ensures (c.in_ok-begun.ensures ∙ moved)) c.in-Err.ensures))
 
 pub place_over_turns-returns-in-None : goal.place_over_turns-returns-in-None
+unfolding if_reached
 place_over_turns-returns-in-None t c =
     let context = by_code c.args.place.now.context.now in
     let it = c.args.head in
