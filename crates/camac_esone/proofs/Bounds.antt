@@ -40,6 +40,7 @@ stop_left_falls at max qs q to e =
     omega (arith, g.less)
 
 pub q_stop_bounded : QStopIsBounded
+unfolding QStopIsBounded
 q_stop_bounded at max cycles h =
     let count = bounded (q_stop_next at max) (λ qs. max - length qs) (stop_left_falls at max) cycles h in
     let words = tally_most (replies cycles) in
@@ -47,6 +48,7 @@ q_stop_bounded at max cycles h =
     record { count = omega arith; tally = omega arith }
 
 pub q_repeat_bounded : QRepeatIsBounded
+unfolding QRepeatIsBounded
 q_repeat_bounded = repeat.up_to
 
 -- after Q=1 the station is the same or the next
@@ -76,6 +78,7 @@ scan_left_falls first last max qs false to e =
     omega arith
 
 pub scan_bounded : ScanIsBounded
+unfolding ScanIsBounded
 scan_bounded first last max cycles h =
     let count = bounded (scan_next first last max) (scan_left first last max) (scan_left_falls first last max) cycles h in
     record { count = omega arith; tally = scan.up_to first last max cycles h }
@@ -123,5 +126,6 @@ addresses_left_fall first last max h qs q to e =
     omega arith
 
 pub scan_within_addresses : ScanIsWithinAddresses
+unfolding ScanIsWithinAddresses
 scan_within_addresses first last max cycles h driven =
     bounded (scan_next first last max) (addresses_left first last) (addresses_left_fall first last max h) cycles driven

@@ -22,19 +22,19 @@ place at = 16 * at.station + at.sub_address
 abbrev pub addresses : Address → Address → ℕ
 addresses first last = 16 * last.station + min 15 last.sub_address + 1 - place first
 
-abbrev pub QStopIsBounded : Type 0
+unfoldable pub QStopIsBounded : Type 0
 QStopIsBounded = (at : Address) (max : ℕ) (cycles : List Cycle) → IsDriven (q_stop_next at max) cycles → IsUpTo max max cycles
 
-abbrev pub QRepeatIsBounded : Type 0
+unfoldable pub QRepeatIsBounded : Type 0
 QRepeatIsBounded =
     (at : Address) (max limit : ℕ) (cycles : List Cycle) → IsDriven (q_repeat_next at max limit) cycles → IsUpTo limit max cycles
 
 -- A scan leaves a station at each Q=0.
-abbrev pub ScanIsBounded : Type 0
+unfoldable pub ScanIsBounded : Type 0
 ScanIsBounded =
     (first last : Address) (max : ℕ) (cycles : List Cycle) → IsDriven (scan_next first last max) cycles → IsUpTo (max + stations first last) max cycles
 
 -- It comes to no address twice.
-abbrev pub ScanIsWithinAddresses : Type 0
+unfoldable pub ScanIsWithinAddresses : Type 0
 ScanIsWithinAddresses =
     (first last : Address) (max : ℕ) (cycles : List Cycle) → first.sub_address ≤ 15 → IsDriven (scan_next first last max) cycles → length cycles ≤ addresses first last

@@ -138,4 +138,5 @@ module _ (plan : Layout) (script : Script) (ks : List Bounds) (is : IsPlan plan)
   }
 
 pub accepted_calls_keep : AcceptedCallsKeep
+unfolding AcceptedCallsKeep
 accepted_calls_keep plan script ks is formed e = calls_keep plan script ks is formed e

@@ -26,8 +26,7 @@ use Rattle.camac_check_costs.specs.declared.bodies.Owner.TheVariants as owner
 use Rattle.camac_check_rows.specs.Rows.{found}
 use Rattle.camac_check_costs.specs.Body.{BodyRows}
 use Rattle.camac_check_costs.specs.Bodies.{body_costs, costs_over}
-use Rattle.camac_laws.specs.Shares.{total, IsBelow}
-use Rattle.camac_laws.specs.CostsBounds.{service_bounds, AreBounds, CostsAreBounds}
+use Rattle.camac_laws.specs.CostsBounds.{total, IsBelow, service_bounds, AreBounds, CostsAreBounds}
 use Rattle.camac_check.proofs.Capped.{in_code, in_rules, cut, cut_all, if_reached_cut, block_cut}
 use Rattle.camac_laws.proofs.Shares.{go_ok, ok_same, body_adds}
 use Rattle.camac_lang.specs.declared.spot.Spot.{Spot}

@@ -1,15 +1,9 @@
-pub mod Costs
 pub mod Grown
 pub mod Steps
-pub mod Emptied
 pub mod Least
 pub mod Guarded
-pub mod Guards
 pub mod Kept
 pub mod Calls
-mod CallRows
-mod Refused
-mod EachTurns
 mod OverLimit
 pub mod ShownArguments
 pub mod ShownExpressions
@@ -19,9 +13,7 @@ pub mod ShownWindows
 pub mod Places
 pub mod RefusedAt
 pub mod Regions
-pub mod Judged
 pub mod Values
-pub mod Windows
 pub mod ScansJudged
 mod AddressRows
 pub mod Sums

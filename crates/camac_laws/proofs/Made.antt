@@ -47,9 +47,8 @@ use Rattle.camac_check_rows.specs.Weights.{once, turning, first_arm, second_arm,
 use Rattle.camac_check_rows.specs.Turns.{merge, Turned, turned, turns_over, each_turned}
 use Rattle.camac_check_rows.specs.Rows.{found, block_verdict, Turning, turning_from, ways, for_turning, while_turning, taken, lock_inside, lock_head, own_row, else_row, inside, statement_rows, block_rows}
 use Rattle.camac_laws.specs.Lower.{AtMost}
-use Rattle.camac_laws.specs.Made.{Made, spent, both, from_end, where_some, by_test, for_made, while_made, lock_made, unmade_in, unmade, made_in, made}
-use Rattle.camac_laws.specs.Shares.{IsBelow}
-use Rattle.camac_laws.specs.Times.{NoMore}
+use Rattle.camac_laws.specs.Made.{Made, spent, both, from_end, where_some, by_test, for_made, while_made, lock_made, unmade_in, unmade, made_in, made, NoMore}
+use Rattle.camac_laws.specs.CostsBounds.{IsBelow}
 use Rattle.camac_laws.proofs.CostsBounds.{required_ok}
 use Rattle.camac_laws.proofs.MadeLists.{KeepsIn, AllIn, in_more, in_both, in_append, none_inside, all_inside, AllAdd, same_more, none_merged, adds_in, adds_none, adds_turn, turns_none, turns_unmade}
 use Rattle.camac_laws.proofs.Shares.{go_ok, ok_same}

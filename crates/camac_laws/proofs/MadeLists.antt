@@ -13,8 +13,7 @@ use Rattle.camac_check_rows.specs.declared.inside.Weight.{Weight}
 use Rattle.camac_check_rows.specs.Turns.{merge, most_of, Turned, turned, turns_over}
 use Rattle.camac_check_rows.specs.Weights.{in_64_bits, inside_row}
 use Rattle.camac_laws.specs.Lower.{AtMost}
-use Rattle.camac_laws.specs.Made.{Made, both, NoneAbove, AllKeep}
-use Rattle.camac_laws.specs.Times.{NoMore}
+use Rattle.camac_laws.specs.Made.{Made, both, NoneAbove, AllKeep, NoMore}
 
 -- so often what the row says
 pub record KeepsIn (m : ℕ) (r : Row) (ks : List Bounds) : Type 0 where

@@ -14,8 +14,7 @@ use Rattle.camac_rules.specs.EachLimit.{judged_limit, block_judged, count, count
 use Rattle.camac_rules.specs.Fault.{Fault, broken}
 use Rattle.camac_rules.specs.Refusal.{required}
 use Rattle.camac_laws.specs.Refused.{named, body_of, loops_in, block_loops, judged_in, IsOverLimit}
-use Rattle.camac_laws.proofs.Refused.{go_err, required_err, required_true}
-use Rattle.camac_laws.proofs.Steps.{go_ok}
+use Rattle.camac_laws.proofs.Steps.{go_err, required_err, required_true, go_ok}
 use Rattle.camac_lang.specs.declared.spot.Spot.{Spot}
 
 append_assoc : (xs ys zs : List Statement) → (xs ++ ys) ++ zs ≡ xs ++ (ys ++ zs)

@@ -25,16 +25,12 @@ use Rattle.camac_rules.specs.Cycles.{Context, Around, may_write, same_class}
 use Rattle.camac_rules.specs.Expressions.{range_of}
 use Rattle.camac_rules.specs.Windows.{Window, window_of, stations_of, sub_addresses_at, is_empty, holds_at, holds_over, first_over, is_installed_at, is_installed, missing_over, is_declared_at, is_declared}
 use Rattle.camac_rules.specs.Transfers.{is_one_crate, has_sub_addresses, undeclared_by, scan_verdict, scan_rule}
-use Rattle.camac_laws.specs.ShownWindows.{IsInWindow}
+use Rattle.camac_laws.specs.Scans.{IsInWindow, ComesToWindow, IsPastLast, IsScanJudged, ScansAreJudged, AreInstalledOver, HasMissingOver, HasUndeclaredOver, WindowsAreInstalled, WindowsAreDeclared}
 use Rattle.camac_laws.specs.Regions.{IsInstalled}
-use Rattle.camac_laws.specs.Scans.{ComesToWindow, IsPastLast, IsScanJudged, ScansAreJudged}
-use Rattle.camac_laws.specs.Windows.{AreInstalledOver, HasMissingOver, HasUndeclaredOver}
 use Rattle.camac_laws.proofs.Steps.{go_is}
 use Rattle.camac_laws.proofs.ShownAddresses.{first_is, station_same}
-use Rattle.camac_laws.proofs.ShownWindows.{of_station, over_is, fails_at, after_test, after_given}
-use Rattle.camac_laws.proofs.Regions.{crate_below, station_below, none_allowed}
-use Rattle.camac_laws.proofs.Judged.{passed, failed}
-use Rattle.camac_laws.proofs.Windows.{last_has, first_at, windows_are_installed, windows_are_declared}
+use Rattle.camac_laws.proofs.ShownWindows.{of_station, over_is, fails_at, after_test, after_given, last_has, first_at, windows_are_installed, windows_are_declared}
+use Rattle.camac_laws.proofs.Regions.{crate_below, station_below, none_allowed, passed, failed}
 use Rattle.camac_lang.specs.declared.spot.Spot.{Spot}
 
 -- ---- where a test fails over a window
@@ -142,6 +138,7 @@ module _ (c : Context) (is : IsPlan c.plan) (around : Around) (spot : Spot) (f r
       (after_test (is_installed c.plan w) StationNotInstalled spot (missing_over c.plan w) second (broken StationNotInstalled spot case) (sym scan_is ∙ e))
 
   from_missing : (n a : ℕ) → IsInWindow w n a → (IsInstalled c.plan g.crates.lo n → ⊥) → scan_rule c around spot f r1 r2 max x k ≡ Err (broken StationNotInstalled spot (missing_over c.plan w))
+  unfolding WindowsAreInstalled
   from_missing n a i not =
       scan_is
       ∙ failed (is_installed c.plan w) StationNotInstalled spot (missing_over c.plan w) second
@@ -159,6 +156,7 @@ module _ (c : Context) (is : IsPlan c.plan) (around : Around) (spot : Spot) (f r
       by_first true at t = by_second (has_sub_addresses h) refl t
 
   not_declared : Without → Declared ≡ false
+  unfolding WindowsAreDeclared
   not_declared s =
       ⊎_elim (λ le. and_left (has_sub_addresses g) (has_sub_addresses h && is_declared c.plan f w) (le-ltb g.sub_addresses.hi sub_address_end le))
       (λ t. and_right (has_sub_addresses g) (has_sub_addresses h && is_declared c.plan f w)
@@ -169,6 +167,7 @@ module _ (c : Context) (is : IsPlan c.plan) (around : Around) (spot : Spot) (f r
       s
 
   to_undeclared : (case : Case) → scan_rule c around spot f r1 r2 max x k ≡ Err (broken CommandNotDeclared spot case) → AreInstalledOver c.plan w × Without
+  unfolding WindowsAreInstalled
   to_undeclared case e =
       ⊎_elim (λ t. absurd (let bad = t.1 in cc))
       (λ t. ⊎_elim (λ s. ((windows_are_installed c.plan is w last).0 t.0, without s.0)) (λ s. absurd (no_third CommandNotDeclared case (inr refl) s.1))
@@ -176,6 +175,7 @@ module _ (c : Context) (is : IsPlan c.plan) (around : Around) (spot : Spot) (f r
       (after_test (is_installed c.plan w) StationNotInstalled spot (missing_over c.plan w) second (broken CommandNotDeclared spot case) (sym scan_is ∙ e))
 
   from_undeclared : AreInstalledOver c.plan w → Without → scan_rule c around spot f r1 r2 max x k ≡ Err (broken CommandNotDeclared spot (undeclared_by c.plan f g h))
+  unfolding WindowsAreInstalled
   from_undeclared all out =
       scan_is
       ∙ passed (is_installed c.plan w) StationNotInstalled spot (missing_over c.plan w) second ((windows_are_installed c.plan is w last).1 all)
@@ -188,4 +188,5 @@ module _ (c : Context) (is : IsPlan c.plan) (around : Around) (spot : Spot) (f r
   }
 
 pub scans_are_judged : ScansAreJudged
+unfolding ScansAreJudged
 scans_are_judged c is around spot f r1 r2 max x k g h comes = is_scan_judged c is around spot f r1 r2 max x k g h comes

@@ -27,7 +27,7 @@ use Rattle.camac_check_rows.specs.Weights.{once, turning, first_arm, second_arm,
 use Rattle.camac_check_rows.specs.Turns.{merge, Turned, turned, turns_over, each_turned}
 use Rattle.camac_check_rows.specs.Rows.{found, block_verdict, Turning, turning_from, loop_share, lock_share, lock_inside, lock_head, simple_row, else_row, inside, statement_rows, block_rows}
 use Rattle.camac_check_costs.specs.Bodies.{rows_if, body_costs, costs_over, sections_of}
-use Rattle.camac_laws.specs.Shares.{total, IsBelow, AddUp, SharesAddUp}
+use Rattle.camac_laws.specs.CostsBounds.{total, IsBelow, AddUp, SharesAddUp}
 use Rattle.camac_laws.proofs.Sums.{same_costs, plus_none, none_plus, total_append, total_arms, total_inside, total_of_none, if_sum, if_below, choice_sum, choice_below, lock_sum, lock_below, loop_sum, no_turns, loop_weighed, turn_below, then_sum, then_below, total_merged, turn_sum, turns_sum, turns_below, each_sum, each_below}
 use Rattle.camac_laws.proofs.Turned.{begun, no_turn}
 use Rattle.camac_lang.specs.declared.spot.Spot.{Spot}

@@ -18,7 +18,7 @@ use Rattle.camac_rules.specs.Addresses.{crate_end, station_end, sub_address_end,
 use Rattle.camac_rules.proofs.Walks.{all_from_at, all_in_at, hull_from_at}
 use Rattle.camac_rules.proofs.Regions.{widths_at}
 use Rattle.camac_laws.specs.ShownAddresses.{IsFirst, HasAddresses, MissingShown, MissingAreShown, has_command_at, has_command_in, UndeclaredShown, UndeclaredAreShown}
-use Rattle.camac_laws.proofs.Refused.{go_err, required_err, required_true, given_err}
+use Rattle.camac_laws.proofs.Steps.{go_err, required_err, required_true, given_err}
 
 -- ---- the first number of a range
 

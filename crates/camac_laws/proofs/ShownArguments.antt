@@ -73,6 +73,7 @@ unfit_from procedure number i at (r ∷ rs) (p ∷ ps) found wanted e =
         }
 
 pub arguments_are_shown : ArgumentsAreShown
+unfolding ArgumentsAreShown
 arguments_are_shown procedure number i rs ps found wanted e =
     let h = unfit_from procedure number 0 i rs ps found wanted e in
     let there = h.is_place in
@@ -98,6 +99,7 @@ later_kept q qs k x found kept fits h = record {
     before (suc j) p lt e = h.earlier j p (omega arith) e
 
 pub kept_are_shown : KeptAreShown
+unfolding KeptAreShown
 kept_are_shown place shown [] k x found kept e = absurd (cc)
 kept_are_shown place shown (q ∷ qs) k x found kept e =
     go (is_inside (range_at k.ranges q.variable) (kept_range q)) refl e (λ f. kept_are_shown place shown qs k x found kept f)
@@ -143,9 +145,11 @@ unfit_one procedure i (r ∷ rs) (p ∷ ps) many e =
     go false f ih = (i, numbers_of r, numbers_of (parameter_range p), refl)
 
 pub unfit_have_one : UnfitHaveOne
+unfolding UnfitHaveOne
 unfit_have_one procedure rs ps many e = unfit_one procedure 0 rs ps many e
 
 pub unkept_have_one : UnkeptHaveOne
+unfolding UnkeptHaveOne
 unkept_have_one place [] k e = absurd (cc)
 unkept_have_one place (q ∷ qs) k e =
     go (is_inside (range_at k.ranges q.variable) (kept_range q)) e (λ f. unkept_have_one place qs k f)

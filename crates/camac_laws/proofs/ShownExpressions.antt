@@ -19,9 +19,8 @@ use Rattle.camac_rules.specs.Fault.{Fault, broken}
 use Rattle.camac_rules.specs.Joined.{join}
 use Rattle.camac_rules.specs.Known.{Facts}
 use Rattle.camac_rules.specs.Refusal.{go_on, required, given, if_reached}
-use Rattle.camac_laws.specs.ShownExpressions.{HasPart, applied, result_of, IsOfNoText, ExpressionShown, ExpressionsAreShown, IsRefusedThere, ConditionsAreShown, IsSide, PartsAreShown}
-use Rattle.camac_laws.proofs.Refused.{go_err, required_err, given_err, reached_err, reached_is}
-use Rattle.camac_laws.proofs.Steps.{go_is}
+use Rattle.camac_laws.specs.Shown.{HasPart, applied, result_of, IsOfNoText, ExpressionShown, ExpressionsAreShown, IsRefusedThere, ConditionsAreShown, IsSide, PartsAreShown}
+use Rattle.camac_laws.proofs.Steps.{go_err, required_err, given_err, reached_err, reached_is, go_is}
 use Rattle.camac_lang.specs.declared.spot.Spot.{Spot}
 
 -- ---- a part of an expression is a part of what it stands in

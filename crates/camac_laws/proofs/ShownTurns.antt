@@ -16,7 +16,7 @@ use Rattle.camac_rules.specs.Known.{Facts, range_at}
 use Rattle.camac_rules.specs.Loops.{turn_limit, keeps_hold, limits, turns_between, turns_case, while_head}
 use Rattle.camac_rules.specs.Writes.{fall_of}
 use Rattle.camac_laws.specs.Shown.{WhileShown, WhileTurnsAreShown, ForTurnsAreShown, EachTurnsAreShown}
-use Rattle.camac_laws.proofs.Refused.{go_err, required_err, given_err, given_ok}
+use Rattle.camac_laws.proofs.Steps.{go_err, required_err, given_err, given_ok}
 use Rattle.camac_laws.proofs.ShownExpressions.{expressions_are_shown}
 use Rattle.camac_lang.specs.declared.spot.Spot.{Spot}
 
@@ -94,6 +94,7 @@ not_by_range spot e k at case f =
     cc
 
 pub for_turns_are_shown : ForTurnsAreShown
+unfolding ForTurnsAreShown
 for_turns_are_shown around spot x e1 e2 keeps k at case e =
     ⊎_elim
     (λ h. absurd (not_by_range spot e1 k at case h))
@@ -122,6 +123,7 @@ for_turns_are_shown around spot x e1 e2 keeps k at case e =
     (go_err (range_of spot e1 k.ranges) _ (broken TooManyTurns at case) e)
 
 pub each_turns_are_shown : EachTurnsAreShown
+unfolding EachTurnsAreShown
 each_turns_are_shown around spot x v last at case e =
     ⊎_elim
     (λ h. absurd (let g = required_err (nat_le v greatest && nat_le last greatest) ValueOutOfRange spot Malformed (broken TooManyTurns at case) h in let bad = g.1 in cc))

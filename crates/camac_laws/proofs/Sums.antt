@@ -12,7 +12,7 @@ use Rattle.camac_check_rows.specs.declared.inside.Weight.{Weight}
 use Rattle.camac_check_rows.specs.declared.row.Row.{Row}
 use Rattle.camac_check_rows.specs.Turns.{merge}
 use Rattle.camac_check_rows.specs.Weights.{once, turning, first_arm, second_arm, in_64_bits, weighed, inside_row}
-use Rattle.camac_laws.specs.Shares.{total, IsBelow}
+use Rattle.camac_laws.specs.CostsBounds.{total, IsBelow}
 
 pub same_costs : (a b c d e f : ℕ) → a ≡ d → b ≡ e → c ≡ f → costs a b c ≡ costs d e f
 same_costs a b c d e f p q r = cc

@@ -31,7 +31,7 @@ use Rattle.camac_check_rows.specs.Weights.{once, turning, first_arm, second_arm,
 use Rattle.camac_check_rows.specs.Turns.{merge, Turned, turned, turns_over, each_turned}
 use Rattle.camac_check_rows.specs.Rows.{found, block_verdict, Turning, turning_from, lock_inside, lock_head, simple_row, else_row, inside, times_at, statement_rows, block_rows}
 use Rattle.camac_check_costs.specs.Bodies.{rows_if, body_costs, costs_over, sections_of}
-use Rattle.camac_laws.specs.Times.{NoMore, InSteps, TimesInSteps}
+use Rattle.camac_laws.specs.Made.{NoMore, InSteps, TimesInSteps}
 use Rattle.camac_laws.proofs.Turned.{begun, no_turn}
 use Rattle.camac_laws.proofs.Shares.{in_code, go_ok, ok_same}
 use Rattle.camac_lang.specs.declared.spot.Spot.{Spot}

@@ -31,13 +31,11 @@ use Rattle.camac_rules.specs.Refusal.{go_on, required, given}
 use Rattle.camac_rules.specs.Transfers.{block_class, has_words, words_fit, words_sent, greatest_of, block_region}
 use Rattle.camac_rules.proofs.Heads.{write_at}
 use Rattle.camac_laws.specs.ShownAddresses.{HasAddresses}
-use Rattle.camac_laws.specs.Regions.{IsIn, HasWidths}
+use Rattle.camac_laws.specs.Regions.{IsIn, HasWidths, CommandsAreJudged}
 use Rattle.camac_laws.specs.Values.{FitsAll, IsTooWide, IsWriteFit, WritesAreFit, IsGreatestWord, AreWordsFit, BlocksAreFit, IsReadInto, ReadsAreAll}
-use Rattle.camac_laws.proofs.Refused.{go_err, required_err, required_true, given_err}
-use Rattle.camac_laws.proofs.Steps.{go_ok, go_is}
+use Rattle.camac_laws.proofs.Steps.{go_err, required_err, required_true, given_err, go_ok, go_is}
 use Rattle.camac_laws.proofs.ShownWindows.{after_test, after_given}
-use Rattle.camac_laws.proofs.Regions.{same_width}
-use Rattle.camac_laws.proofs.Judged.{commands_are_judged}
+use Rattle.camac_laws.proofs.Regions.{same_width, commands_are_judged}
 use Rattle.camac_lang.specs.declared.spot.Spot.{Spot}
 
 -- ---- a value at each address
@@ -158,6 +156,7 @@ module _ (c : Context) (is : IsPlan c.plan) (around : Around) (spot : Spot) (siz
       (λ _. go_on (required (Fit w) ValueTooWide spot (Width v.hi (sized size w.lo))) (λ _. Ok (verdict (Some k) (one_cycle c around q.crates)))))) set
 
   widths_of : (w : Interval) → command_widths c.plan spot f g ≡ Ok w → HasWidths c.plan f g w
+  unfolding CommandsAreJudged
   widths_of w h = (((commands_are_judged c.plan is spot f g has).accepted w).0 h).1
 
   is_write_fit : IsWriteFit c.plan f g size v.hi (write_rule c around spot size f r e k)
@@ -183,6 +182,7 @@ module _ (c : Context) (is : IsPlan c.plan) (around : Around) (spot : Spot) (siz
   }
 
 pub writes_are_fit : WritesAreFit
+unfolding WritesAreFit
 writes_are_fit c is around spot size f r e k g v range set has = is_write_fit c is around spot size f r e k g v range set has
 
 module _ (c : Context) (is : IsPlan c.plan) (around : Around) (spot : Spot) (f r : ℕ) (t : Option ℕ) (most x : ℕ) (k : Facts) (g : Region)
@@ -212,6 +212,7 @@ module _ (c : Context) (is : IsPlan c.plan) (around : Around) (spot : Spot) (f r
   free_is = after_given (region_at k.registers r) g RegisterUnset spot (Unset around.body r) _ set
 
   places : (w : Interval) → command_widths c.plan spot f g ≡ Ok w → HasWidths c.plan f g w
+  unfolding CommandsAreJudged
   places w h = (((commands_are_judged c.plan is spot f g has).accepted w).0 h).1
 
   each_fits : (o : Option ℕ) (w : Interval) → HasWidths c.plan f g w → words_fit c.tables o w.lo ≡ true → (word : ℕ) → Contains (words_sent c.tables o) word → FitsAll c.plan f g Full word
@@ -254,6 +255,7 @@ module _ (c : Context) (is : IsPlan c.plan) (around : Around) (spot : Spot) (f r
   }
 
 pub blocks_are_fit : BlocksAreFit
+unfolding BlocksAreFit
 blocks_are_fit c is around spot f r t most x k g set has = are_words_fit c is around spot f r t most x k g set has
 
 -- ---- the words that are read
@@ -289,6 +291,7 @@ module _ (c : Context) (is : IsPlan c.plan) (around : Around) (spot : Spot) (siz
       Ok (verdict (Some (left w)) (one_cycle c around q.crates))))
 
   is_read : (after : Facts) × (v.after ≡ Some after) × IsReadInto c.plan f g size x k after
+  unfolding CommandsAreJudged
   is_read =
       let one = go_ok (required (may_write around x) LoopVariableAssigned spot (Counted around.body x)) (λ _. go_on (given (region_at k.registers r) RegisterUnset spot (Unset around.body r)) rest) v e in
       let two = go_ok (command_widths c.plan spot f g) (λ w. go_on (required (same_class Read (class_of f)) WrongDirection spot (direction f Read)) (λ _.

@@ -49,7 +49,7 @@ guarded_run n plan script answers =
 
 -- A guarded call whose arguments are not in the ranges is wrong. It has as many of them as its procedure has parameters: so has each call
 -- of a well-formed script.
-abbrev pub GuardsStop : Type 0
+unfoldable pub GuardsStop : Type 0
 GuardsStop =
     (plan : Layout) (script : Script) (ps : List Procedure) (j : ℕ) (p : Procedure) → slice_get ps j ≡ Some p
     → (n : ℕ) (spot : Spot) (es : List Expression) (s : State) (vs : List ℕ) → values es s.variables ≡ Some vs
@@ -81,7 +81,7 @@ pub record CallsKeepToRanges (plan : Layout) (script : Script) : Type 0 where
       → Holds right_watch nothing (guarded_run n plan script answers)
 
 -- Each call of an accepted script has its arguments in the ranges.
-abbrev pub AcceptedCallsKeep : Type 0
+unfoldable pub AcceptedCallsKeep : Type 0
 AcceptedCallsKeep =
     (plan : Layout) (script : Script) (ks : List Bounds) → IsPlan plan → IsTrue (is_well_formed script)
     → accept plan script ≡ Ok ks → CallsKeepToRanges plan script

@@ -1,5 +1,5 @@
 -- The bounds at the heads of the costs of an accepted script are those of the check.
-use Rattle.std.specs.Prelude.{◌≡◌, List, [], ◌∷◌, ◌++◌, IsTrue, Ok}
+use Rattle.std.specs.Prelude.{◌≡◌, List, [], ◌∷◌, ◌++◌, IsTrue, Ok, ◌<◌, ◌-◌, ◌^◌}
 use Rattle.camac_lang.specs.Scope.{is_well_formed}
 use Rattle.camac_lang.specs.Tree.{Script}
 use Rattle.camac_branch.specs.Plan.{Layout}
@@ -11,7 +11,26 @@ use Rattle.camac_check_costs.specs.declared.bodies.Owner.{Owner}
 use Rattle.camac_check_costs.specs.declared.bodies.Owner.TheVariants as owner
 use Rattle.camac_check_costs.specs.Body.{BodyRows}
 use Rattle.camac_check_costs.specs.Bodies.{costs_with, sections_of}
-use Rattle.camac_laws.specs.Shares.{total}
+use Rattle.camac_rules.specs.Costs.{no_costs, plus}
+use Rattle.camac_check_rows.specs.declared.row.Row.{Row}
+
+-- The shares of the rows of a body, added up.
+
+abbrev pub total : List Row → Bounds
+total [] = no_costs
+total (r ∷ rs) = plus r.share (total rs)
+
+-- each number is below the greatest of 64 bits, at which costs stay
+abbrev pub IsBelow : Bounds → Type 0
+IsBelow b = (b.cycles < 2 ^ 64 - 1) × (b.words < 2 ^ 64 - 1) × (b.steps < 2 ^ 64 - 1)
+
+abbrev pub AddUp : List BodyRows → Type 0
+AddUp [] = Unit {0}
+AddUp (b ∷ bs) = (IsBelow b.costs → total b.rows ≡ b.costs) × AddUp bs
+
+-- The shares of the rows of each procedure and service add up to its bound.
+abbrev pub SharesAddUp : Type 0
+SharesAddUp = (plan : Layout) (script : Script) → AddUp (costs_with capped plan script)
 
 abbrev pub bound_of_service : Owner → Bounds → List Bounds
 bound_of_service (owner.Procedure i) k = []

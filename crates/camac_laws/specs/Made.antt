@@ -17,6 +17,21 @@ use Rattle.camac_check_costs.specs.Bodies.{costs_with, sections_of}
 use Rattle.camac_check_rows.specs.declared.row.Row.{Row}
 use Rattle.camac_laws.specs.Lower.{AtMost}
 
+-- How often the statements of a body are made.
+
+-- none of these is made more often
+abbrev pub NoMore : ℕ → List Row → Type 0
+NoMore most [] = Unit {0}
+NoMore most (r ∷ rs) = (r.times ≤ most) × NoMore most rs
+
+abbrev pub InSteps : List BodyRows → Type 0
+InSteps [] = Unit {0}
+InSteps (b ∷ bs) = NoMore b.costs.steps b.rows × InSteps bs
+
+-- No statement of a procedure or service is made more often than its bound has steps.
+abbrev pub TimesInSteps : Type 0
+TimesInSteps = (plan : Layout) (script : Script) → InSteps (costs_with capped plan script)
+
 -- what is counted from one state of a service to a later one
 abbrev pub spent : State → State → Bounds
 spent s t = record { cycles = t.cost - s.cost; words = length t.words - length s.words; steps = t.steps - s.steps }

@@ -42,7 +42,7 @@ pub record HasWidths (plan : Layout) (f : ℕ) (g : Region) (w : Interval) : Typ
   pub greatest : (c n a : ℕ) × IsIn g c n a × (allowed plan (address c n a) f ≡ Some w.hi)
 
 -- The test of E1 holds exactly where each station is installed.
-abbrev pub StationsAreAll : Type 0
+unfoldable pub StationsAreAll : Type 0
 StationsAreAll =
     (plan : Layout) → IsPlan plan → (g : Region) → HasAddresses g → (are_stations plan g ≡ true) ↔ AreInstalled plan g
 
@@ -51,7 +51,7 @@ pub record WidthsOf (plan : Layout) (f : ℕ) (g : Region) : Type 0 where
   pub some : (w : Interval) → (region_widths plan f g ≡ Some w) ↔ HasWidths plan f g w
   pub none : (region_widths plan f g ≡ None) ↔ HasUndeclared plan f g
 
-abbrev pub WidthsAreAll : Type 0
+unfoldable pub WidthsAreAll : Type 0
 WidthsAreAll =
     (plan : Layout) → IsPlan plan → (f : ℕ) (g : Region) → HasAddresses g → are_stations plan g ≡ true → WidthsOf plan f g
 
@@ -65,12 +65,12 @@ pub record IsJudged (plan : Layout) (spot : Spot) (f : ℕ) (g : Region) : Type 
       ↔ (AreInstalled plan g × HasUndeclared plan f g)
   pub accepted : (w : Interval) → (command_widths plan spot f g ≡ Ok w) ↔ (AreInstalled plan g × HasWidths plan f g w)
 
-abbrev pub CommandsAreJudged : Type 0
+unfoldable pub CommandsAreJudged : Type 0
 CommandsAreJudged = (plan : Layout) → IsPlan plan → (spot : Spot) (f : ℕ) (g : Region) → HasAddresses g → IsJudged plan spot f g
 
 -- Before a cycle in a crate of the plan so many auxiliary cycles may come exactly where they are at most the crate's waits, and none in a
 -- locked crate.
-abbrev pub WaitsMayCome : Type 0
+unfoldable pub WaitsMayCome : Type 0
 WaitsMayCome =
     (plan : Layout) (locked : List ℕ) (c waits wait : ℕ) → crate_waits plan c ≡ Some waits
     → (permitted (is_among c locked) waits wait ≡ true) ↔ (wait ≤ waits_in plan locked c)
@@ -81,7 +81,7 @@ pub record IsGreatestCost (plan : Layout) (locked : List ℕ) (crates : Interval
   pub one : (c : ℕ) × IsWithin crates c × (1 + waits_in plan locked c ≡ u)
 
 -- The cost of a cycle is 1 plus the greatest number of waits that may come before it, in any crate of a range that has a number.
-abbrev pub CostIsGreatest : Type 0
+unfoldable pub CostIsGreatest : Type 0
 CostIsGreatest =
     (plan : Layout) → IsPlan plan → (locked : List ℕ) (crates : Interval) → crates.lo ≤ crates.hi
     → IsGreatestCost plan locked crates (cycle_cost plan locked crates)

@@ -41,7 +41,7 @@ pub record IsWriteFit (plan : Layout) (f : ℕ) (g : Region) (size : WordSize) (
   pub accepted : (v : Verdict) → answer ≡ Ok v → FitsAll plan f g size greatest
   pub refused : (at : Spot) (case : Case) → answer ≡ Err (broken ValueTooWide at case) → IsTooWide plan f g size greatest case
 
-abbrev pub WritesAreFit : Type 0
+unfoldable pub WritesAreFit : Type 0
 WritesAreFit =
     (c : Context) → IsPlan c.plan → (around : Around) (spot : Spot) (size : WordSize) (f r : ℕ) (e : Expression) (k : Facts) (g : Region) (v : Interval)
     → range_of spot e k.ranges ≡ Ok v → region_at k.registers r ≡ Some g → HasAddresses g
@@ -58,7 +58,7 @@ pub record AreWordsFit (plan : Layout) (f : ℕ) (g : Region) (words : List ℕ)
   pub refused : (at : Spot) (case : Case) → answer ≡ Err (broken ValueTooWide at case)
       → (word : ℕ) × IsGreatestWord words word × IsTooWide plan f g Full word case
 
-abbrev pub BlocksAreFit : Type 0
+unfoldable pub BlocksAreFit : Type 0
 BlocksAreFit =
     (c : Context) → IsPlan c.plan → (around : Around) (spot : Spot) (f r : ℕ) (t : Option ℕ) (most x : ℕ) (k : Facts) (g : Region)
     → region_at k.registers r ≡ Some g → HasAddresses g

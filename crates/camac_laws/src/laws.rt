@@ -1,18 +1,14 @@
 // What holds of headings, of calls and of refusals, each law as the contract of a function that does nothing.
 
 ghost use Rattle.camac_laws.specs.Calls.{AcceptedCallsKeep, CallsKeepToRanges, GuardsOnlyStop, GuardsStop};
-ghost use Rattle.camac_laws.specs.Grow.{CostsGrow};
-ghost use Rattle.camac_laws.specs.Least.{CheckedHaveLeast, LeastAreLeast, RefusedHaveNone};
+ghost use Rattle.camac_laws.specs.Lower.{CostsGrow, CheckedHaveLeast, LeastAreLeast, RefusedHaveNone};
 ghost use Rattle.camac_laws.specs.Places.{RegistersHaveAddresses};
 ghost use Rattle.camac_laws.specs.Refused.{HeadingsAreShown, RefusedAtPlaces};
 ghost use Rattle.camac_laws.specs.Regions.{CommandsAreJudged, CostIsGreatest, StationsAreAll, WaitsMayCome, WidthsAreAll};
-ghost use Rattle.camac_laws.specs.Scans.{ScansAreJudged};
-ghost use Rattle.camac_laws.specs.Shown.{ArgumentsAreShown, EachTurnsAreShown, ForTurnsAreShown, KeptAreShown, UnfitHaveOne, UnkeptHaveOne, WhileTurnsAreShown};
+ghost use Rattle.camac_laws.specs.Scans.{ScansAreJudged, WindowsAreCounted, WindowsAreDeclared, WindowsAreInstalled, MissingOverAreShown, UndeclaredOverAreShown};
+ghost use Rattle.camac_laws.specs.Shown.{ArgumentsAreShown, EachTurnsAreShown, ForTurnsAreShown, KeptAreShown, UnfitHaveOne, UnkeptHaveOne, WhileTurnsAreShown, ConditionsAreShown, ExpressionsAreShown, PartsAreShown};
 ghost use Rattle.camac_laws.specs.ShownAddresses.{MissingAreShown, UndeclaredAreShown};
-ghost use Rattle.camac_laws.specs.ShownExpressions.{ConditionsAreShown, ExpressionsAreShown, PartsAreShown};
-ghost use Rattle.camac_laws.specs.ShownWindows.{MissingOverAreShown, UndeclaredOverAreShown};
 ghost use Rattle.camac_laws.specs.Values.{BlocksAreFit, ReadsAreAll, WritesAreFit};
-ghost use Rattle.camac_laws.specs.Windows.{WindowsAreCounted, WindowsAreDeclared, WindowsAreInstalled};
 
 use camac_check::Checked;
 
@@ -41,6 +37,7 @@ pub fn checked_have_least()
 {}
 
 /// A guarded call is wrong, where its arguments are not in the ranges of its procedure's parameters.
+#[tactic(auto, using(crate::proofs::Kept::guards_stop))]
 pub fn guards_stop()
     ensures { GuardsStop }
 {}
@@ -53,6 +50,7 @@ pub fn guards_only_stop()
 
 /// In every run of an accepted script each call of a procedure has its arguments in the ranges of the heading. With guards the script means
 /// the same as without them, and nothing is wrong.
+#[tactic(auto, using(crate::proofs::Calls::accepted_calls_keep))]
 pub fn accepted_calls_keep()
     ensures { AcceptedCallsKeep }
 {}
@@ -83,6 +81,7 @@ pub fn headings_are_shown()
 
 /// Where an argument is not in the range of its parameter (E21), the case shows the first such argument of the call and both ranges. With
 /// as many arguments as parameters there is always such a case.
+#[tactic(auto, using(crate::proofs::ShownArguments::arguments_are_shown, crate::proofs::ShownArguments::unfit_have_one))]
 pub fn arguments_are_shown()
     ensures first { ArgumentsAreShown }
     ensures always { UnfitHaveOne }
@@ -90,6 +89,7 @@ pub fn arguments_are_shown()
 
 /// Where a kept range may fail (E8, E9), the case shows the first variable that is not in it, and both ranges. There
 /// is always such a case.
+#[tactic(auto, using(crate::proofs::ShownArguments::kept_are_shown, crate::proofs::ShownArguments::unkept_have_one))]
 pub fn kept_are_shown()
     ensures first { KeptAreShown }
     ensures always { UnkeptHaveOne }
@@ -105,6 +105,7 @@ pub fn while_turns_are_shown()
 
 /// Where a `for` may have too many turns (E10), the case shows the turns from the least first value to the greatest last one, and the most
 /// that any loop may have; with `each`, from its first number to its last one.
+#[tactic(auto, using(crate::proofs::ShownTurns::for_turns_are_shown, crate::proofs::ShownTurns::each_turns_are_shown))]
 pub fn for_turns_are_shown()
     ensures plain { ForTurnsAreShown }
     ensures each { EachTurnsAreShown }
@@ -167,18 +168,21 @@ pub fn registers_have_addresses()
 
 /// A command passes E1 exactly where each station that its register can hold is installed. Its crate is in the plan, and it has a module, or
 /// the controller answers for it.
+#[tactic(auto, using(crate::proofs::Regions::stations_are_all))]
 pub fn stations_are_all()
     ensures { StationsAreAll }
 {}
 
 /// Where they are, the widths of a function are the least and the greatest that it has at an address of the register. There are none exactly
 /// where some address does not allow the function.
+#[tactic(auto, using(crate::proofs::Regions::widths_are_all))]
 pub fn widths_are_all()
     ensures { WidthsAreAll }
 {}
 
 /// So a command is refused by E1 exactly where some station is not installed. It is refused by E2 exactly where all are, and some address
 /// does not allow its function.
+#[tactic(auto, using(crate::proofs::Regions::commands_are_judged))]
 pub fn commands_are_judged()
     ensures { CommandsAreJudged }
 {}
@@ -186,6 +190,7 @@ pub fn commands_are_judged()
 /// A single write is accepted only where the greatest value of its expression fits at each address of its register, and a block transfer only
 /// where each word that it sends does. E5 refuses them only where the value, or the greatest word, does not fit at some address: the case shows
 /// it, and the bits that are sent there.
+#[tactic(auto, using(crate::proofs::Values::writes_are_fit, crate::proofs::Values::blocks_are_fit))]
 pub fn values_are_fit()
     ensures single { WritesAreFit }
     ensures block { BlocksAreFit }
@@ -200,6 +205,7 @@ pub fn reads_are_all()
 
 /// The cost of a cycle is 1 plus the greatest number of waits that may come before it in some crate of the register. No crate has more, and
 /// one has so many. Those that may come are the ones up to the plan's number, and none in a locked crate.
+#[tactic(auto, using(crate::proofs::Regions::cost_is_greatest, crate::proofs::Regions::waits_may_come))]
 pub fn cost_is_greatest()
     ensures cost { CostIsGreatest }
     ensures waits { WaitsMayCome }
@@ -207,6 +213,7 @@ pub fn cost_is_greatest()
 
 /// The tests of a scan are of the addresses of its window, from its first to its last, in the order of stations and then of sub-addresses.
 /// The station of each is installed; each allows the function; and the window's size is how many there are.
+#[tactic(auto, using(crate::proofs::ShownWindows::windows_are_installed, crate::proofs::ShownWindows::windows_are_declared, crate::proofs::ShownWindows::windows_are_counted))]
 pub fn windows_are_between()
     ensures installed { WindowsAreInstalled }
     ensures declared { WindowsAreDeclared }
@@ -215,6 +222,7 @@ pub fn windows_are_between()
 
 /// So a scan is refused by E1 exactly where the station of an address of its window is not installed. It is refused by E2 exactly where all
 /// are, and a register may hold a sub-address above 15, or an address of the window does not allow the function.
+#[tactic(auto, using(crate::proofs::ScansJudged::scans_are_judged))]
 pub fn scans_are_judged()
     ensures { ScansAreJudged }
 {}

@@ -1,10 +1,8 @@
 // What holds of the rows of a script, and of the lines of a plan, each law as the contract of a function that does nothing.
 
-ghost use Rattle.camac_laws.specs.CostsBounds.{CostsAreBounds};
+ghost use Rattle.camac_laws.specs.CostsBounds.{CostsAreBounds, SharesAddUp};
 ghost use Rattle.camac_laws.specs.Listed.{CommandsAreListed};
-ghost use Rattle.camac_laws.specs.Made.{RowsAreOfRuns};
-ghost use Rattle.camac_laws.specs.Shares.{SharesAddUp};
-ghost use Rattle.camac_laws.specs.Times.{TimesInSteps};
+ghost use Rattle.camac_laws.specs.Made.{RowsAreOfRuns, TimesInSteps};
 
 /// The shares of a body's rows add up to its bound, in cycles, in words and in steps, unless a number of it is the greatest of 64 bits.
 #[tactic(auto, using(crate::proofs::Shares::shares_add_up))]

@@ -17,8 +17,7 @@ use Rattle.camac_model.specs.Value.{value, values, truth}
 use Rattle.camac_model.specs.Cycle.{after_cycle, cycle, sized, kept, after_lock, take_lock, after_release, release}
 use Rattle.camac_model.specs.Transfer.{keep_word}
 use Rattle.camac_model.specs.Meaning.{Context, crate_address, crate_function, lam_function, fits_size, act, transfer_to, sent, for_state, for_from, turns, entered, returned, enter, effect, block_meaning, context}
-use Rattle.camac_model.proofs.Contexts.{AllRoutines, script_block}
-use Rattle.camac_model.proofs.Rules.{Meets, then_meets, given_meets, decide_meets, unless_meets, cycle_meets, lock_meets, transfer_meets, turns_meet, counts_meet}
+use Rattle.camac_model.proofs.Rules.{AllRoutines, script_block, Meets, then_meets, given_meets, decide_meets, unless_meets, cycle_meets, lock_meets, transfer_meets, turns_meet, counts_meet}
 
 module _ {X : Type 0} (step : X → Piece → X) (S : X → Piece → Type 0) (I : X → State → Type 0) where
   -- each single step keeps it, and S holds of its piece

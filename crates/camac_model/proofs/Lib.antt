@@ -8,10 +8,7 @@ mod LockRows
 mod ProcedureRows
 mod SafeRows
 mod SamplePlan
-pub mod Values
-pub mod Contexts
 pub mod Extends
-pub mod Longer
 pub mod Rules
 pub mod Kept
 pub mod Counts

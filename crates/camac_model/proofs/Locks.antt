@@ -22,8 +22,7 @@ use Rattle.camac_model.specs.Cycle.{after_cycle, cycle, sized, kept, after_lock,
 use Rattle.camac_model.specs.Transfer.{keep_word}
 use Rattle.camac_model.specs.Meaning.{Context, crate_address, crate_function, lam_function, fits_size, act, transfer_to, sent, for_state, for_from, turns, entered, enter, effect, block_meaning, context}
 use Rattle.camac_model.specs.Laws.{EndsWith, NoneLocked, ServicesUnlock}
-use Rattle.camac_model.proofs.Contexts.{AllRoutines, script_block}
-use Rattle.camac_model.proofs.Rules.{Meets, then_meets, weaker, given_meets, decide_meets, unless_meets, cycle_meets, lock_meets, enter_meets, after_one, transfer_meets, turns_meet, counts_meet}
+use Rattle.camac_model.proofs.Rules.{AllRoutines, script_block, Meets, then_meets, weaker, given_meets, decide_meets, unless_meets, cycle_meets, lock_meets, enter_meets, after_one, transfer_meets, turns_meet, counts_meet}
 
 -- each crate is locked in both or in neither
 pub record SameLocks (b d : Branch) : Type 0 where

@@ -1,8 +1,8 @@
 -- Rules for what a behaviour meets: S at each piece, P where it stops, Q where it ends, each given what is counted from the pieces before.
 -- One rule for each way in which the meaning is put together; induction over statements needs nothing else.
-use Rattle.std.proofs.Common.{◌≡◌, ℕ, zero, suc, ◌+◌, ◌≤◌, List, [], ◌∷◌, ◌++◌, Option, Some, None, Bool, true, false, refl, arith}
-use Rattle.std.specs.Prelude.{if◌then◌else◌}
-use Rattle.camac_lang.specs.Tree.{Condition}
+use Rattle.std.proofs.Common.{◌≡◌, ℕ, zero, suc, ◌+◌, ◌≤◌, List, [], ◌∷◌, ◌++◌, Option, Some, None, Bool, true, false, refl, arith, subst}
+use Rattle.std.specs.Prelude.{if◌then◌else◌, slice_get}
+use Rattle.camac_lang.specs.Tree.{Condition, Block, Procedure, Script}
 use Rattle.camac_func.specs.declared.data.DataMove.{DataMove}
 use Rattle.camac_branch.specs.Address.{Address}
 use Rattle.camac_branch.specs.Allowed.{width}
@@ -16,7 +16,36 @@ use Rattle.camac_model.specs.Value.{truth}
 pub use Rattle.camac_model.specs.Moments.{Meets}
 use Rattle.camac_model.specs.Cycle.{too_long, answered, outcome, follow, after_cycle, make_cycle, cycle, kept, after_lock, take_lock}
 use Rattle.camac_model.specs.Transfer.{transfer_data, keep_word, request, transfer}
-use Rattle.camac_model.specs.Meaning.{for_state, for_turns, turns, entered, returned, enter}
+use Rattle.camac_model.specs.Meaning.{for_state, for_turns, turns, entered, returned, enter, Context, block_meaning, with_procedure, routines_with, bare, context}
+
+-- What every block does where the procedures before it do it, the blocks of a script do.
+
+-- each procedure of a context has a property
+pub record AllRoutines (P : (ℕ → Action) → Type 0) (c : Context) : Type 0 where
+  pub each : (p : ℕ) (r : ℕ → Action) → slice_get c.routines p ≡ Some r → P r
+
+module _ (P : (ℕ → Action) → Type 0) where
+  -- one more at the end of a list
+  appended : (rs : List (ℕ → Action)) (x : ℕ → Action) → ((p : ℕ) (r : ℕ → Action) → slice_get rs p ≡ Some r → P r) → P x → (p : ℕ) (r : ℕ → Action) → slice_get (rs ++ x ∷ []) p ≡ Some r → P r
+  appended [] x h hx zero r e = let same : x ≡ r = cc in subst P same hx
+  appended [] x h hx (suc p) r e = absurd (cc)
+  appended (y ∷ rs) x h hx zero r e = h zero r e
+  appended (y ∷ rs) x h hx (suc p) r e = appended rs x (λ q r' e'. h (suc q) r' e') hx p r e
+
+  module _ (block : (c : Context) → AllRoutines P c → (b : Block) → P (λ n. block_meaning c n b)) where
+    pub with_one : (c : Context) (p : Procedure) → AllRoutines P c → AllRoutines P (with_procedure c p)
+    with_one c p h = record { each = appended c.routines (λ n. block_meaning c n p.body) h.each (block c h p.body) }
+
+    with_all : (c : Context) (ps : List Procedure) → AllRoutines P c → (p : ℕ) (r : ℕ → Action) → slice_get (routines_with c ps) p ≡ Some r → P r
+    with_all c [] h = h.each
+    with_all c (q ∷ ps) h = with_all (with_procedure c q) ps (with_one c q h)
+
+    -- every procedure of a script, and every block in its context
+    pub script_routines : (plan : Layout) (script : Script) → AllRoutines P (context plan script)
+    script_routines plan script = record { each = with_all (bare plan script) script.procedures (record { each = λ p r e. absurd (cc) }) }
+
+    pub script_block : (plan : Layout) (script : Script) (b : Block) → P (λ n. block_meaning (context plan script) n b)
+    script_block plan script b = block (context plan script) (script_routines plan script) b
 
 -- keeping a word uses no answer
 pub keeps_answers : (g : Option (List ℕ)) (w : ℕ) (r : Reply) (s : State) → (keep_word g w r s).answers ≡ s.answers

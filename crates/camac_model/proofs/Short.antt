@@ -18,8 +18,7 @@ use Rattle.camac_model.specs.Cycle.{after_cycle, cycle, sized, kept, after_lock,
 use Rattle.camac_model.specs.Transfer.{keep_word}
 use Rattle.camac_model.specs.Meaning.{Context, crate_address, crate_function, lam_function, fits_size, act, transfer_to, sent, for_state, for_from, turns, entered, enter, effect, block_meaning, context}
 use Rattle.camac_model.specs.Laws.{ShortOnlyOf, ServicesShort}
-use Rattle.camac_model.proofs.Contexts.{AllRoutines, script_block}
-use Rattle.camac_model.proofs.Rules.{keeps_answers, Meets, then_meets, given_meets, decide_meets, unless_meets, cycle_meets, lock_meets, enter_meets, transfer_meets, turns_meet, counts_meet}
+use Rattle.camac_model.proofs.Rules.{AllRoutines, script_block, keeps_answers, Meets, then_meets, given_meets, decide_meets, unless_meets, cycle_meets, lock_meets, enter_meets, transfer_meets, turns_meet, counts_meet}
 
 keeps_steps : (g : Option (List ℕ)) (w : ℕ) (r : Reply) (s : State) → (keep_word g w r s).steps ≡ s.steps
 keeps_steps None w r s = go r.q

@@ -143,10 +143,13 @@ module _ (plan : Layout) (f : ℕ) (table : Option (List ℕ)) (next_address : N
       }
 
 pub stops_are_q_stop : StopsAreQStop
+unfolding StopsAreQStop
 stops_are_q_stop plan f table x s at max = is_transfer plan f table (q_stop_next at max) x s (IsQStopList at max) (q_stop_gives at max)
 
 pub repeats_are_q_repeat : RepeatsAreQRepeat
+unfolding RepeatsAreQRepeat
 repeats_are_q_repeat plan f table x s at max limit = is_transfer plan f table (q_repeat_next at max limit) x s (IsQRepeatList at max limit) (q_repeat_gives at max limit)
 
 pub scans_are_scan : ScansAreScan
+unfolding ScansAreScan
 scans_are_scan plan f table x s first last max = is_transfer plan f table (scan_next first last max) x s (IsScanList first last max) (scan_gives first last max)

@@ -1,13 +1,91 @@
 -- The value of an expression is that over whole numbers of any size and sign.
-use Rattle.std.proofs.Common.{◌≡◌, ℕ, ◌+◌, ◌-◌, ◌*◌, ◌/◌, ◌%◌, ◌≤◌, Some, None, Bool, true, false, cond, leb, eqb, refl, sym, ap, ◌∙◌, arith}
-use Rattle.std.specs.Prelude.{pos, ◌+ℤ◌, ◌-ℤ◌, ◌*ℤ◌}
+use Rattle.std.proofs.Common.{◌≡◌, ℕ, ◌+◌, ◌-◌, ◌*◌, ◌/◌, ◌%◌, ◌≤◌, Some, None, Bool, true, false, cond, leb, eqb, refl, sym, ap, ◌∙◌, arith, Option, subst, div-le_self}
+use Rattle.std.specs.Prelude.{pos, ◌+ℤ◌, ◌-ℤ◌, ◌*ℤ◌, nat_eq, nat_le, if◌then◌else◌, option_and_then}
 use Rattle.std.proofs.lemmas.Int.{ints}
 use Rattle.std.proofs.lemmas.Bool.{leb-true, le-leb, eqb-false, ne_eqb}
 use Rattle.camac_lang.specs.Tree.{Expression, number, variable, group, add, subtract, multiply, divide, remainder}
 use Rattle.camac_model.specs.State.{Variables}
-use Rattle.camac_model.specs.Value.{greatest, in_range, difference, quotient, rest_of, value}
+use Rattle.camac_model.specs.Value.{greatest, in_range, difference, quotient, rest_of, value, both}
 use Rattle.camac_model.specs.Whole.{whole, AreNumbers, ValuesAreWhole}
-use Rattle.camac_model.proofs.Values.{both_there, one_there, divided, left_over}
+use Rattle.camac_model.specs.Laws.{InRange, NumbersInRange, ValuesInRange}
+
+-- Where an expression has a value, each number in it is from 0 to M.
+
+-- two values are there where what they give is
+pub both_there : (f : ℕ → ℕ → Option ℕ) (a b : Option ℕ) (v : ℕ) → both f a b ≡ Some v → (x : ℕ) × (y : ℕ) × (a ≡ Some x) × (b ≡ Some y) × (f x y ≡ Some v)
+both_there f None b v e = absurd (cc)
+both_there f (Some x) None v e = absurd (cc)
+both_there f (Some x) (Some y) v e = (x, y, refl, refl, e)
+
+pub one_there : (f : ℕ → Option ℕ) (a : Option ℕ) (v : ℕ) → option_and_then f a ≡ Some v → (x : ℕ) × (a ≡ Some x) × (f x ≡ Some v)
+one_there f None v e = absurd (cc)
+one_there f (Some x) v e = (x, refl, e)
+
+is_in_range : (n v : ℕ) → in_range n ≡ Some v → v ≤ greatest
+is_in_range n v e = go (nat_le n greatest) refl e
+  where
+    go : (b : Bool) → nat_le n greatest ≡ b → (if b then Some n else None) ≡ Some v → v ≤ greatest
+    go true x e' = let same : n ≡ v = cc in subst (λ k. k ≤ greatest) same (leb-true n greatest x)
+    go false x e' = absurd (cc)
+
+less : (x y v : ℕ) → x ≤ greatest → difference x y ≡ Some v → v ≤ greatest
+less x y v h e = go (nat_le y x) e
+  where
+    go : (b : Bool) → (if b then Some (x - y) else None) ≡ Some v → v ≤ greatest
+    go true e' = let same : x - y ≡ v = cc in omega arith
+    go false e' = absurd (cc)
+
+pub divided : (x d v : ℕ) → x ≤ greatest → quotient x d ≡ Some v → v ≤ greatest
+divided x d v h e = go (nat_eq d 0) e
+  where
+    go : (b : Bool) → (if b then None else Some (x / d)) ≡ Some v → v ≤ greatest
+    go true e' = absurd (cc)
+    go false e' = let same : x / d ≡ v = cc in omega (arith, div-le_self x d)
+
+mod-le_self : (x d : ℕ) → x % d ≤ x
+mod-le_self x d = omega arith
+
+pub left_over : (x d v : ℕ) → x ≤ greatest → rest_of x d ≡ Some v → v ≤ greatest
+left_over x d v h e = go (nat_eq d 0) e
+  where
+    go : (b : Bool) → (if b then None else Some (x % d)) ≡ Some v → v ≤ greatest
+    go true e' = absurd (cc)
+    go false e' = let same : x % d ≡ v = cc in omega (arith, mod-le_self x d)
+
+-- what has a value has it in range
+some_in_range : (o : Option ℕ) (v : ℕ) → o ≡ Some v → v ≤ greatest → InRange o
+some_in_range o v e h = subst InRange (sym e) h
+
+module _ (env : Variables) where
+  top : (e : Expression) (v : ℕ) → value e env ≡ Some v → v ≤ greatest
+  top (number n) v e = is_in_range n v e
+  top (variable x) v e = is_in_range (env x) v e
+  top (group a) v e = top a v e
+  top (add a b) v e = let h = both_there (λ v w. in_range (v + w)) (value a env) (value b env) v e in is_in_range (h.0 + h.1) v h.4
+  top (subtract a b) v e =
+      let h = both_there difference (value a env) (value b env) v e in less h.0 h.1 v (top a h.0 h.2) h.4
+  top (multiply a b) v e = let h = both_there (λ v w. in_range (v * w)) (value a env) (value b env) v e in is_in_range (h.0 * h.1) v h.4
+  top (divide a d) v e = let h = one_there (λ x. quotient x d) (value a env) v e in divided h.0 d v (top a h.0 h.1) h.2
+  top (remainder a d) v e = let h = one_there (λ x. rest_of x d) (value a env) v e in left_over h.0 d v (top a h.0 h.1) h.2
+
+  here : (e : Expression) (v : ℕ) → value e env ≡ Some v → InRange (value e env)
+  here e v h = some_in_range (value e env) v h (top e v h)
+
+  all : (e : Expression) (v : ℕ) → value e env ≡ Some v → NumbersInRange e env
+  all (number n) v e = here (number n) v e
+  all (variable x) v e = here (variable x) v e
+  all (group a) v e = (here (group a) v e, all a v e)
+  all (add a b) v e =
+      let h = both_there (λ v w. in_range (v + w)) (value a env) (value b env) v e in (here (add a b) v e, all a h.0 h.2, all b h.1 h.3)
+  all (subtract a b) v e =
+      let h = both_there difference (value a env) (value b env) v e in (here (subtract a b) v e, all a h.0 h.2, all b h.1 h.3)
+  all (multiply a b) v e =
+      let h = both_there (λ v w. in_range (v * w)) (value a env) (value b env) v e in (here (multiply a b) v e, all a h.0 h.2, all b h.1 h.3)
+  all (divide a d) v e = let h = one_there (λ x. quotient x d) (value a env) v e in (here (divide a d) v e, all a h.0 h.1)
+  all (remainder a d) v e = let h = one_there (λ x. rest_of x d) (value a env) v e in (here (remainder a d) v e, all a h.0 h.1)
+
+pub values_in_range : ValuesInRange
+values_in_range e env v h = all env e v h
 
 pos_is : (m n : ℕ) → pos m ≡ pos n → m ≡ n
 pos_is m n e = cc
@@ -117,6 +195,7 @@ back (remainder e d) env h =
     record { number = s.number % d; is = rw s.is refl; value_is = rw (s.value_is, ne_eqb d 0 h.0) refl }
 
 pub values_are_whole : ValuesAreWhole
+unfolding ValuesAreWhole
 values_are_whole e env v = (
   λ h. let t = forth e env v h in (t.is, t.numbers),
   λ p. let t = back e env p.1 in t.value_is ∙ ap Some (pos_is t.number v (sym t.is ∙ p.0)),

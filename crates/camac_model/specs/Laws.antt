@@ -107,7 +107,7 @@ pub record BeginsWith (a b : Behaviour (Unit {0})) : Type 0 where
   pub more_items : (ps : List Piece) × (items b ≡ items a ++ ps)
   pub more_events : (es : List Event) × (events b ≡ events a ++ es)
 
-abbrev pub RunsGoOn : Type 0
+unfoldable pub RunsGoOn : Type 0
 RunsGoOn =
     (plan : Layout) (script : Script) (n : ℕ) (answers bs : List Answer)
     → BeginsWith (run n plan script answers) (run n plan script (answers ++ bs))

@@ -75,17 +75,17 @@ pub record IsTransfer (plan : Layout) (table : Option (List ℕ)) (x : ℕ) (IsL
   pub moves : Meets with_piece (MovesNext table) AnyStop Any [] b
 
 -- of each of the three transfers
-abbrev pub StopsAreQStop : Type 0
+unfoldable pub StopsAreQStop : Type 0
 StopsAreQStop =
     (plan : Layout) (f : ℕ) (table : Option (List ℕ)) (x : ℕ) (s : State) (at : Address) (max : ℕ)
     → IsTransfer plan table x (IsQStopList at max) s (transfer_to plan f table (q_stop_next at max) x s)
 
-abbrev pub RepeatsAreQRepeat : Type 0
+unfoldable pub RepeatsAreQRepeat : Type 0
 RepeatsAreQRepeat =
     (plan : Layout) (f : ℕ) (table : Option (List ℕ)) (x : ℕ) (s : State) (at : Address) (max limit : ℕ)
     → IsTransfer plan table x (IsQRepeatList at max limit) s (transfer_to plan f table (q_repeat_next at max limit) x s)
 
-abbrev pub ScansAreScan : Type 0
+unfoldable pub ScansAreScan : Type 0
 ScansAreScan =
     (plan : Layout) (f : ℕ) (table : Option (List ℕ)) (x : ℕ) (s : State) (first last : Address) (max : ℕ)
     → IsTransfer plan table x (IsScanList first last max) s (transfer_to plan f table (scan_next first last max) x s)

@@ -32,6 +32,6 @@ AreNumbers (divide e d) env = (d ≢ 0) × AreNumbers e env
 AreNumbers (remainder e d) env = (d ≢ 0) × AreNumbers e env
 
 -- the value is that over whole numbers, and it is there exactly where all of them are numbers
-abbrev pub ValuesAreWhole : Type 0
+unfoldable pub ValuesAreWhole : Type 0
 ValuesAreWhole =
     (e : Expression) (env : Variables) (v : ℕ) → (value e env ≡ Some v) ↔ ((whole e env ≡ pos v) × AreNumbers e env)

@@ -1,5 +1,4 @@
 pub mod Bits
 pub mod Entries
 pub mod Rows
-pub mod Sums
 pub mod Widths

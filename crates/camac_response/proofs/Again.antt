@@ -18,15 +18,13 @@ use Rattle.camac_response_times.proofs.Rounds.{response_starts}
 use Rattle.camac_response.specs.Stretch.{Stretch, no_stretch, one_more, called, calling}
 use Rattle.camac_response.specs.Modules.{Raises, Pauses, IsApart, AreApart, Clock, stretch_at, clock_at, clock_after, IsOnce, WaitsBy}
 use Rattle.camac_response.specs.Lams.{Clears, Moods, Lams, book_after, ServesWell, Wires, first_wires, wires_after, AtCycle, EndsByRate, RaisesAfter, lams_of}
-use Rattle.camac_response.specs.Laws.{CallsLowest, LookAtMesAreAnswered}
-use Rattle.camac_response.proofs.Along.{AreCovered}
-use Rattle.camac_response.proofs.Stretches.{covered}
+use Rattle.camac_response.specs.Laws.{CallsLowest, LookAtMesAreAnswered, LowestAreCalled}
+use Rattle.camac_response.proofs.Along.{AreCovered, covered}
 use Rattle.camac_response.proofs.Answers.{Timed, timed_first}
 use Rattle.camac_response.proofs.Lowest.{lowest_are_called}
-use Rattle.camac_response.proofs.Raised.{AreRaised}
+use Rattle.camac_response.proofs.Lams.{AreRaised, Agrees, agrees_first, RaisesLate, Once, Shown, Alone}
 use Rattle.camac_response.proofs.Waits.{IsBegun, begun_first, raised_are_answered}
 use Rattle.camac_response.proofs.Waits as waits
-use Rattle.camac_response.proofs.Lams.{Agrees, agrees_first, RaisesLate, Once, Shown, Alone}
 use Rattle.camac_response.proofs.Lams as lines
 
 -- a service ends by its rate, or it does not
@@ -233,6 +231,7 @@ module _ (ts : List Source) (lams : Lams) (by_plan : Clears) (moods : Moods) (ra
   walk P Q m x (stops w v) h all c l care once again r quiet = tt
 
 pub look_at_mes_are_answered : LookAtMesAreAnswered
+unfolding LookAtMesAreAnswered LowestAreCalled
 look_at_mes_are_answered plan is_plan script ks safe ts are s source its start by by_plan moods raises pauses answers care keep =
     let cover : AreCovered ks ts = covered ks ts are.cycles in
     let lams : Lams = lams_of script in

@@ -1,5 +1,5 @@
 -- What is known of a stretch along a behaviour in which each service costs no more than its bounds.
-use Rattle.std.proofs.Common.{◌≡◌, ℕ, ◌+◌, ◌-◌, ◌≤◌, List, Option, Some, None, Bool, true, false, refl, sym, ◌∙◌, ap, subst, arith}
+use Rattle.std.proofs.Common.{◌≡◌, ℕ, ◌+◌, ◌-◌, ◌≤◌, List, Option, Some, None, Bool, true, false, refl, sym, ◌∙◌, ap, subst, arith, map}
 use Rattle.std.specs.Prelude.{nat_le, slice_get, option_map, if◌then◌else◌}
 use Rattle.std.proofs.Math.Nat.{le_trans}
 use Rattle.std.proofs.lemmas.Bool.{and_parts, leb-true}
@@ -8,12 +8,14 @@ use Rattle.camac_model.specs.Behaviour.{Piece, demanded, cycled, lock_taken, loc
 use Rattle.camac_model.specs.State.{State}
 use Rattle.camac_model.specs.Moments.{Meets, Any, AnyStop}
 use Rattle.camac_model.specs.Fine.{Bounds}
-use Rattle.camac_model.specs.Headline.{Moment, Progress, begun, spent, moment_after, CostStays}
+use Rattle.camac_model.specs.Headline.{Moment, Progress, begun, spent, moment_after, CostStays, first_moment, InService, StepsFit}
 use Rattle.camac_response_times.specs.declared.source.Source.{Source}
-use Rattle.camac_response_times.specs.Response.{calls_within, is_up_to, before}
-use Rattle.camac_response.specs.Stretch.{Stretch, no_stretch, one_more, called, calling, longer, stretch_after}
+use Rattle.camac_response_times.specs.Response.{calls_within, is_up_to, before, stretch_wants, IsEnough}
+use Rattle.camac_response.specs.Stretch.{Stretch, no_stretch, one_more, called, calling, longer, stretch_after, IsWithin}
 use Rattle.camac_response_times.proofs.Wanted.{calls_mono, before_most}
-use Rattle.camac_response.proofs.Sources.{AreKept, one_more_same, one_more_le, one_more_at}
+use Rattle.camac_response.proofs.Sources.{AreKept, one_more_same, one_more_le, one_more_at, spent_on, spent_within, spent_more, mapped_at}
+use Rattle.camac_model.specs.Run.{the_run}
+use Rattle.camac_response.specs.Laws.{StretchesEnd}
 
 -- each bound is that of a source at least
 abbrev pub AreCovered : List Bounds → List Source → Type 0
@@ -136,3 +138,35 @@ module _ (ks : List Bounds) (ts : List Source) (g : ℕ) (I : Moment → Stretch
       (n.0, follows P Q (moment_after m p) (stretch_after ts g x p) b n.1 h.1)
   follows P Q m x (ends a) i h = tt
   follows P Q m x (stops w s) i h = tt
+
+-- No stretch takes more cycles than any number that is enough for all that it wants.
+
+pub covered : (ks : List Bounds) (ts : List Source) → map (λ k. k.cycles) ks ≡ map (λ t. t.cycles) ts → AreCovered ks ts
+covered ks ts e i k at =
+    let h = mapped_at (λ z. z.cycles) (λ z. z.cycles) ks ts e i k at in
+    let same : k.cycles ≡ h.0.cycles = h.2 in
+    (h.0, h.1, omega (arith, same))
+
+-- all calls of services up to the bit pay
+abbrev pub stretch_budget : (ts : List Source) (g most : ℕ) → IsEnough (stretch_wants ts g) most → Budget ts g
+stretch_budget ts g most wanted = record {
+  is_meant = is_up_to g;
+  most = most;
+  paid = λ a. spent_on (is_up_to g) a ts;
+  IsOpen = λ a. Unit {0};
+  fewer = λ a b le u. u;
+  pays = λ a b i t at up le more. spent_more (is_up_to g) a b ts i t at up le more;
+  holds = λ a u kept. let spent = spent_within (is_up_to g) most a ts kept in omega (arith, spent, wanted);
+}
+
+pub stretches_end : StretchesEnd
+unfolding StretchesEnd
+stretches_end plan script ks safe ts are g most wanted answers =
+    let y : Budget ts g = stretch_budget ts g most wanted in
+    let cover : AreCovered ks ts = covered ks ts are.cycles in
+    follows ks ts g (λ m x. Paid ks ts g cover y m.progress x) (λ x p. IsWithin most (stretch_after ts g x p))
+    (λ m x p h c.
+    let n : Paid ks ts g cover y (moment_after m p).progress (stretch_after ts g x p) = paid_after ks ts g cover y m x p h c in
+    (record { within = λ kept. within ks ts g cover y (moment_after m p).progress (stretch_after ts g x p) n kept tt }, n))
+    (λ m w s. InService ks m (StepsFit s)) Any (first_moment answers) (no_stretch None) (the_run plan script answers)
+    (paid_first ks ts g cover y) (safe.cost_within answers)

@@ -15,8 +15,7 @@ use Rattle.camac_response_times.specs.Response.{calls_within, period, start_want
 use Rattle.camac_response.specs.Stretch.{Stretch, no_stretch, one_more, called, calling, longer, stretch_after, InTime, AnswersBy}
 use Rattle.camac_response.specs.Laws.{AnswersInTime}
 use Rattle.camac_response.proofs.Sources.{spent_on, spent_within, spent_more, spent_le, times_more, one_more_same}
-use Rattle.camac_response.proofs.Along.{AreCovered, Budget, Paid, within, paid_after, paid_first, follows}
-use Rattle.camac_response.proofs.Stretches.{covered, stretch_budget}
+use Rattle.camac_response.proofs.Along.{AreCovered, Budget, Paid, within, paid_after, paid_first, follows, covered, stretch_budget}
 
 -- the next call of the service, if it may come in the stretch, is not late yet; and the stretch is within the longest one
 pub record IsPending (s : ℕ) (source : Source) (longest start : ℕ) (x : Stretch) : Type 0 where
@@ -231,6 +230,7 @@ module _ (ks : List Bounds) (ts : List Source) (cover : AreCovered ks ts)
       timed_step m x p h c = let after = timed_after m x p h c in (piece_in_time m x p h after c, after)
 
 pub answers_in_time : AnswersInTime
+unfolding AnswersInTime
 answers_in_time plan script ks safe ts are s source its start by answers =
     let cover : AreCovered ks ts = covered ks ts are.cycles in
     follows ks ts source.bit (λ m x. Timed ks ts cover are.apart s source its by.longest by.enough m.progress x) (AnswersBy ts s source start)

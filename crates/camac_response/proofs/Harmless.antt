@@ -1,5 +1,5 @@
 -- A service that makes a cycle that clears its own look-at-me, and whose cycles are harmless, does what is asked of it.
-use Rattle.std.proofs.Common.{◌≡◌, ℕ, List, [], ◌∷◌, Option, Some, None, option_map, cond, find, Bool, true, false, refl, sym, ◌∙◌, ap, subst}
+use Rattle.std.proofs.Common.{◌≡◌, ℕ, List, [], ◌∷◌, Option, Some, None, option_map, cond, find, Bool, true, false, refl, sym, ◌∙◌, ap, subst, zero, suc, map, length}
 use Rattle.std.specs.List.{list_all}
 use Rattle.std.specs.Prelude.{◌||◌, ◌&&◌, not, nat_eq, option_and_then, slice_get, if◌then◌else◌}
 use Rattle.std.proofs.lemmas.Bool.{and_parts, and_from, eq-eqb, eqb-true, true≢false}
@@ -12,23 +12,83 @@ use Rattle.camac_crate.specs.declared.command.ControllerOp.TheVariants.{Initiali
 use Rattle.camac_crate.specs.Controller.{ControllerCommand, controller_table, controller}
 use Rattle.camac_crate.specs.State.{CrateBits, effect}
 use Rattle.camac_branch.specs.Address.{Address}
-use Rattle.camac_branch.specs.Branch.{Branch, Answer, effect_in, branch_after}
-use Rattle.camac_branch.specs.Plan.{Layout}
+use Rattle.camac_branch.specs.Branch.{Branch, Answer, effect_in, branch_after, pattern_of, start}
+use Rattle.camac_branch.specs.Plan.{Layout, IsPlan, gl}
 use Rattle.camac_model.specs.State.{State, fresh}
 use Rattle.camac_model.specs.Behaviour.{Piece, demanded, cycled, lock_taken, lock_released, event_left, Behaviour, does, ends, stops}
 use Rattle.camac_model.specs.Headline.{no_count, nothing}
-use Rattle.camac_model.specs.Meaning.{context}
+use Rattle.camac_model.specs.Meaning.{context, lam_address}
 use Rattle.camac_model.specs.Moments.{Meets, Any, AnyStop}
-use Rattle.camac_model.specs.Run.{service_meaning}
+use Rattle.camac_model.specs.Run.{service_meaning, Chosen, service_bit, service_for, event_of, serve, rounds}
 use Rattle.camac_model.proofs.Kept.{IsStepwise, Still, script_keeps}
 use Rattle.camac_model.proofs.Rounds.{meets_mapped}
 use Rattle.camac_commands.specs.Surely.{made_one, AnyPiece, IsMade}
 use Rattle.camac_response_times.specs.declared.source.Source.{Source}
 use Rattle.camac_response_times.specs.Response.{is_up_to}
-use Rattle.camac_response.specs.Lams.{Clears, Lams, lams_of, of_lam, clears, is_lam_call, is_crate_call, enabled_by, Book, book_after, NoneHidden, IsAskedAgain, ServesWell}
-use Rattle.camac_response.specs.Served.{hides, IsHarmless, Harmless, HarmlessServe}
+use Rattle.camac_response.specs.Lams.{Clears, Lams, lams_of, of_lam, clears, is_lam_call, is_crate_call, enabled_by, Book, book_after, NoneHidden, IsAskedAgain, ServesWell, first_page}
+use Rattle.camac_response.specs.Served.{hides, IsHarmless, Harmless, HarmlessServe, ServesItself, ServicesServe}
 use Rattle.camac_response.proofs.Lams.{or_false, or_first}
-use Rattle.camac_response.proofs.Served.{or_second, by_or}
+use Rattle.camac_model.specs.Fine.{Bounds}
+use Rattle.camac_model.specs.Demands.{IsCalled}
+use Rattle.camac_model.proofs.Rules.{then_meets}
+use Rattle.camac_model.proofs.Demands.{demands_call_services}
+use Rattle.camac_response.specs.Laws.{AreSources}
+use Rattle.camac_response.proofs.Lowest.{same_at}
+
+-- All services do what is asked of them where each does by itself.
+
+pub or_second : (a b : Bool) → b ≡ true → (a || b) ≡ true
+or_second true b e = refl
+or_second false b e = e
+
+pub by_or : (a b : Bool) (P : Type 0) → (a || b) ≡ true → (a ≡ true → P) → (b ≡ true → P) → P
+by_or true b P e first second = first refl
+by_or false b P e first second = second e
+
+module _ (plan : Layout) (is_plan : IsPlan plan) (script : Script) (ks : List Bounds) (ts : List Source) (are : AreSources plan script ks ts) (by_plan : Clears) (g : ℕ)
+    (serves : (i : ℕ) (v : Service) → slice_get script.services i ≡ Some v → ServesItself plan script ts by_plan g i v) where
+  abbrev Well : Book → Piece → Type 0
+  Well = ServesWell ts (lams_of script) by_plan g
+
+  abbrev page_turned : Book → Piece → Book
+  page_turned = book_after (lams_of script) by_plan
+
+  abbrev Asked : Book → Type 0
+  Asked x = IsAskedAgain ts (lams_of script) g x
+
+  in_rounds : (k : ℕ) (page : Book) (b : Branch) (answers : List Answer) → Asked page → Meets page_turned Well AnyStop Any page (rounds k (context plan script) 65535 script.services b answers)
+  in_rounds zero page b answers h = tt
+  in_rounds (suc k) page b [] h = tt
+  in_rounds (suc k) page b (a ∷ rest) h =
+      (h, go (service_for (context plan script) (pattern_of plan b a.gl) script.services) refl (in_rounds k))
+    where
+      go : (o : Option Chosen) → service_for (context plan script) (pattern_of plan b a.gl) script.services ≡ o
+          → ((x : Book) (b' : Branch) (l : List Answer) → Asked x → Meets page_turned Well AnyStop Any x (rounds k (context plan script) 65535 script.services b' l))
+          → Meets page_turned Well AnyStop Any (page_turned page (demanded (pattern_of plan b a.gl) (option_map (λ v. v.number) o))) (serve (context plan script) 65535 o b rest (rounds k (context plan script) 65535 script.services))
+      go None e ih = ih (page_turned page (demanded (pattern_of plan b a.gl) None)) b rest (record { cleared = λ i t at up none. absurd (cc); shown = h.shown })
+      go (Some v) e ih =
+          let d = demands_call_services plan is_plan script (pattern_of plan b a.gl) in
+          let called : IsCalled (context plan script) script.services (pattern_of plan b a.gl) v = (d.called v).0 e in
+          let next : Book = page_turned page (demanded (pattern_of plan b a.gl) (Some v.number)) in
+          then_meets page_turned Well AnyStop (λ x s. Asked x) Any next (service_meaning (context plan script) 65535 v.service b rest)
+          (λ s. does (event_left (event_of v.bit s)) (rounds k (context plan script) 65535 script.services s.branch s.answers))
+          (serves v.number v.service called.asked.numbered next refl h.shown b rest) (λ x s w. (tt, ih x s.branch s.answers w))
+
+  -- each source has a look-at-me, which nothing hides at the start
+  enabled_first : (o : Option Address) (b : ℕ) → option_and_then (λ at. gl plan at.crate_no at.station) o ≡ Some b → of_lam (λ lam. true && (start lam.crate_no).bits.demand) o ≡ true
+  enabled_first None b e = absurd (cc)
+  enabled_first (Some lam) b e = refl
+
+  shown_first : NoneHidden ts (lams_of script) g first_page
+  shown_first i t at up =
+      let h = same_at (service_bit (context plan script)) (λ u. Some u.bit) script.services ts are.bits i t at in
+      ap (λ o. of_lam (λ lam. true && (start lam.crate_no).bits.demand) (option_and_then (λ v. slice_get (map lam_address script.lams) v.lam) o)) h.1 ∙ enabled_first (slice_get (map lam_address script.lams) h.0.lam) t.bit h.2
+
+pub services_serve : ServicesServe
+unfolding ServicesServe
+services_serve plan is_plan script ks ts are by_plan g serves answers =
+    in_rounds plan is_plan script ks ts are by_plan g serves (length answers) first_page start answers
+    (record { cleared = λ i t at up none. absurd (cc); shown = shown_first plan is_plan script ks ts are by_plan g serves })
 
 -- what is found passes the test, and what all pass
 found_step : {X : Type 0} (test all : X → Bool) (x y : X) (rest : Option X) (b : Bool) → test x ≡ b → all x ≡ true

@@ -1,19 +1,74 @@
 -- Where services clear their own look-at-mes and hide none, a call is for a look-at-me that was raised, and one that was raised stays until it is answered.
-use Rattle.std.proofs.Common.{◌≡◌, ℕ, ◌+◌, ◌<◌, ◌≤◌, List, Option, Some, None, Bool, true, false, refl, sym, ◌∙◌, ap, subst, arith, ◌⊎◌, inl, inr}
-use Rattle.std.specs.Prelude.{◌||◌, ◌&&◌, nat_eq, nat_lt, slice_get, option_and_then, if◌then◌else◌}
+use Rattle.std.proofs.Common.{◌≡◌, ℕ, ◌+◌, ◌<◌, ◌≤◌, List, Option, Some, None, Bool, true, false, refl, sym, ◌∙◌, ap, subst, arith, ◌⊎◌, inl, inr, length, get_or, map}
+use Rattle.std.specs.Prelude.{◌||◌, ◌&&◌, nat_eq, nat_lt, slice_get, option_and_then, if◌then◌else◌, option_map}
 use Rattle.std.proofs.lemmas.Bool.{and_parts, eq-eqb, eqb-true, ltb-true, ltb-false, true≢false}
-use Rattle.std.proofs.lemmas.Option.{same_Some}
-use Rattle.camac_branch.specs.Address.{Address}
-use Rattle.camac_branch.specs.Branch.{IsSet}
+use Rattle.std.proofs.lemmas.Option.{same_Some, slice_get-map, slice_get-get_or, slice_get_past}
+use Rattle.camac_branch.specs.Address.{Address, address}
+use Rattle.camac_branch.specs.Branch.{IsSet, Answer}
 use Rattle.camac_model.specs.Behaviour.{Piece, demanded, cycled, lock_taken, lock_released, event_left}
-use Rattle.camac_model.specs.Headline.{nothing}
+use Rattle.camac_model.specs.Headline.{nothing, RunsSafely}
 use Rattle.camac_response_times.specs.declared.source.Source.{Source}
-use Rattle.camac_response_times.specs.Response.{is_up_to}
-use Rattle.camac_response.specs.Modules.{Raises, Pauses, paused, IsOnce}
+use Rattle.camac_response_times.specs.Response.{is_up_to, StartsBy}
+use Rattle.camac_response.specs.Modules.{Raises, Pauses, paused, IsOnce, AreApart, Clock, at_start, clock_after, waits_watch}
 use Rattle.camac_response.specs.Lams.{Clears, Moods, Lams, of_lam, clears, may_clear, IsAskedAgain, ServesWell, ClearsNoOther, Wires, first_wires, clears_now, cleared_by, wires_after, AtOperation, AtCycle, IsOfLams, IsQuiet}
-use Rattle.camac_response.specs.Laws.{CallsLowest, IsLowest}
+use Rattle.camac_response.specs.Laws.{CallsLowest, IsLowest, AreSources}
 use Rattle.camac_response.proofs.Sources.{one_more_at}
-use Rattle.camac_response.proofs.Raised.{IsRaised, AreRaised}
+use Rattle.camac_lang.specs.declared.script.Lam.{Lam}
+use Rattle.camac_lang.specs.View.{lam_of}
+use Rattle.camac_model.specs.Meaning.{lam_address}
+use Rattle.camac_lang.specs.Tree.{Script}
+use Rattle.camac_branch.specs.Plan.{Layout, IsPlan}
+use Rattle.camac_model.specs.Fine.{Bounds}
+use Rattle.camac_model.specs.Moments.{Watch, Holds, Any, AnyStop}
+use Rattle.camac_model.specs.Run.{the_run}
+
+-- What the law of look-at-mes needs of an operation, by the numbers of calls: it follows from what services and modules do.
+
+-- An operation with this pattern and this call, which is made at this clock after a pause of so many cycles: of services up to the bit.
+pub record IsRaised (ts : List Source) (raises : Raises) (g pause : ℕ) (y : Clock) (pattern : ℕ) (v : Option ℕ) : Type 0 where
+  -- the branch is left alone only as long as no look-at-me is up
+  pub quiet : (i : ℕ) (t : Source) → slice_get ts i ≡ Some t → is_up_to g t ≡ true → 1 ≤ pause → y.time ≤ raises i (y.calls i)
+  -- a service is called only once its look-at-me was raised
+  pub raised : (i : ℕ) (t : Source) → v ≡ Some i → slice_get ts i ≡ Some t → is_up_to g t ≡ true → raises i (y.calls i) ≤ y.time
+  -- a look-at-me that was raised earlier and is not answered yet is in the pattern
+  pub stays : (i : ℕ) (t : Source) → slice_get ts i ≡ Some t → is_up_to g t ≡ true → raises i (y.calls i) < y.time → IsSet pattern t.bit
+  pub once : IsOnce ts g y.stretch v
+
+abbrev pub AreRaised : List Source → Raises → Pauses → (bit : ℕ) → Clock → Piece → Type 0
+AreRaised ts raises pauses g y (demanded p v) = IsRaised ts raises g (pauses y.operations) (paused (pauses y.operations) y) p v
+AreRaised ts raises pauses g y (cycled at f d r w) = Unit {0}
+AreRaised ts raises pauses g y (lock_taken c w) = Unit {0}
+AreRaised ts raises pauses g y (lock_released c) = Unit {0}
+AreRaised ts raises pauses g y (event_left e) = Unit {0}
+
+-- this holds along a run
+abbrev pub raised_watch : List Source → Raises → Pauses → (bit : ℕ) → Watch Clock (Unit {0})
+raised_watch ts raises pauses g =
+    record { step = clock_after ts pauses g; at_piece = AreRaised ts raises pauses g; at_stop = AnyStop; at_end = Any }
+
+-- so each look-at-me is answered in time, and none waits longer
+abbrev pub RaisedAreAnswered : Type 0
+RaisedAreAnswered =
+    (plan : Layout) → IsPlan plan → (script : Script) (ks : List Bounds) → RunsSafely plan script ks → (ts : List Source) → AreSources plan script ks ts
+    → (s : ℕ) (source : Source) → slice_get ts s ≡ Some source → (start : ℕ) → StartsBy ts source start
+    → (raises : Raises) → AreApart ts source.bit raises → (pauses : Pauses) → (answers : List Answer)
+    → Holds (raised_watch ts raises pauses source.bit) at_start (the_run plan script answers)
+    → Holds (waits_watch ts raises pauses s source start) at_start (the_run plan script answers)
+
+-- Where a LAM stands by its number, as the definitions see it and as the code does.
+
+abbrev pub at : List Lam → ℕ → Option Address
+at ls i = slice_get (map lam_address (map lam_of ls)) i
+
+found : (ls : List Lam) (i : ℕ) (o : Option Lam) → slice_get ls i ≡ o → at ls i ≡ option_map lam_address (option_map lam_of o)
+found ls i o e = slice_get-map lam_address (map lam_of ls) i ∙ ap (option_map lam_address) (slice_get-map lam_of ls i ∙ ap (option_map lam_of) e)
+
+pub lam_there : (ls : List Lam) (i : ℕ) (l : Lam) (a : ℕ) → i < length ls → l ≡ get_or ls i l → a ≡ l.sub_address → at ls i ≡ Some (address l.crate_no l.station a)
+lam_there ls i l a lt is same =
+    found ls i (Some l) (slice_get-get_or ls i l lt ∙ ap (λ x. Some x) (sym is)) ∙ ap (λ s. Some (address l.crate_no l.station s)) (sym same)
+
+pub no_lam : (ls : List Lam) (i : ℕ) → length ls ≤ i → at ls i ≡ None
+no_lam ls i le = found ls i None (slice_get_past ls i le)
 
 -- the service that was called last, or another one
 by_call : (o : Option ℕ) (i : ℕ) (P : Type 0) → (o ≡ Some i → P) → ((o ≡ Some i → ⊥) → P) → P

@@ -95,4 +95,5 @@ module _ (plan : Layout) (is_plan : IsPlan plan) (script : Script) (ks : List Bo
           (in_service nothing v.service b rest) (λ u s h. (tt, ih s.branch s.answers))
 
 pub lowest_are_called : LowestAreCalled
+unfolding LowestAreCalled
 lowest_are_called plan is_plan script ks ts are answers = in_rounds plan is_plan script ks ts are (length answers) start answers

@@ -17,17 +17,18 @@ use Rattle.camac_response_times.specs.declared.source.Source.{Source}
 use Rattle.camac_response_times.specs.Rounds.{most_rounds}
 use Rattle.camac_response_times.proofs.Rounds.{response_starts}
 use Rattle.camac_response_times.proofs.Words.{each_of_more}
-use Rattle.camac_response.specs.Laws.{AreSources}
+use Rattle.camac_response.specs.Laws.{AreSources, AnswersInTime, LookAtMesAreAnswered, LowestAreCalled, StretchesEnd}
 use Rattle.camac_response.specs.Checked.{IsTold, AreTold, CheckedRespond}
 use Rattle.camac_response_times.proofs.Rates.{stretches_are_least}
 use Rattle.camac_response.proofs.Answers.{answers_in_time}
 use Rattle.camac_response.proofs.Lowest.{lowest_are_called}
-use Rattle.camac_response.proofs.Stretches.{stretches_end}
+use Rattle.camac_response.proofs.Along.{stretches_end}
 use Rattle.camac_response.proofs.Again.{look_at_mes_are_answered}
 use Rattle.camac_response.specs.Lams.{plan_clears}
 use Rattle.camac_response.proofs.Reach.{decided_serve}
 use Rattle.camac_commands.proofs.Counted.{service_listed}
 use Rattle.camac_response.proofs.Decided.{decided}
+use Rattle.camac_response.specs.Reach.{DecidedServe}
 
 same_lam : (plan : Layout) (o : Option Lam) → option_and_then (λ at. gl plan at.crate_no at.station) (option_map lam_address o) ≡ option_and_then (lam_bit plan) o
 same_lam plan None = refl
@@ -74,6 +75,7 @@ module _ (c : CheckedScript) (is : IsPlan c.plan) (linked : IsLinked (linked_of 
       }
 
 pub checked_respond : CheckedRespond
+unfolding CheckedRespond AnswersInTime DecidedServe LookAtMesAreAnswered LowestAreCalled StretchesEnd
 checked_respond c is linked formed checked rates ts told =
     let many : length c.bounds ≡ length c.script.services = fine_length c.plan c.script c.bounds c.script.services checked.services in
     let are = told_are_sources c is linked rates ts told many in

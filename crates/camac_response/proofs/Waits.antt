@@ -15,13 +15,12 @@ use Rattle.camac_response_times.specs.declared.source.Source.{Source}
 use Rattle.camac_response_times.specs.Response.{calls_within, period, is_up_to, stretch_wants, IsEnough, StartsWithin}
 use Rattle.camac_response.specs.Stretch.{no_stretch, one_more, called, calling, AnswersBy}
 use Rattle.camac_response.specs.Modules.{Raises, Pauses, IsApart, AreApart, Clock, at_start, paused, clock_at, ticked, clock_after, WaitsBy, HasWaited}
-use Rattle.camac_response.specs.Laws.{CallsLowest, IsLowest}
+use Rattle.camac_response.specs.Laws.{CallsLowest, IsLowest, LowestAreCalled}
 use Rattle.camac_response.proofs.Sources.{one_more_same, one_more_at}
-use Rattle.camac_response.proofs.Along.{AreCovered}
-use Rattle.camac_response.proofs.Stretches.{covered}
+use Rattle.camac_response.proofs.Along.{AreCovered, covered}
 use Rattle.camac_response.proofs.Answers.{Timed, timed_after, timed_first, piece_in_time, pending_now, IsPending}
 use Rattle.camac_response.proofs.Lowest.{lowest_are_called}
-use Rattle.camac_response.proofs.Raised.{IsRaised, AreRaised, RaisedAreAnswered}
+use Rattle.camac_response.proofs.Lams.{IsRaised, AreRaised, RaisedAreAnswered}
 
 not_less : (a b : ℕ) → (a < b → ⊥) → b ≤ a
 not_less a b h = go (nat_lt a b) refl
@@ -322,6 +321,7 @@ module _ (ts : List Source) (s : ℕ) (source : Source) (its : slice_get ts s �
     walk P Q m y (stops w z) h t c l r = waited m.progress y h t
 
 pub raised_are_answered : RaisedAreAnswered
+unfolding LowestAreCalled
 raised_are_answered plan is_plan script ks safe ts are s source its start by raises apart pauses answers modules =
     let cover : AreCovered ks ts = covered ks ts are.cycles in
     walk ts s source its start raises apart ks cover are.apart by.longest by.enough by.starts pauses

@@ -86,5 +86,5 @@ pub record RunsRespond (c : CheckedScript) (ts : List Source) : Type 0 where
 abbrev pub Responds : CheckedScript → Type 0
 Responds c = (every : List Setting) (ts : List Source) → AreTold c every ts → RunsRespond c ts
 
-abbrev pub CheckedRespond : Type 0
+unfoldable pub CheckedRespond : Type 0
 CheckedRespond = (c : CheckedScript) → IsPlan c.plan → IsLinked (linked_of c) → IsTrue (is_well_formed c.script) → IsChecked c → Responds c

@@ -22,13 +22,13 @@ pub record AreSources (plan : Layout) (script : Script) (ks : List Bounds) (ts :
   pub apart : (i j : ℕ) (t u : Source) → slice_get ts i ≡ Some t → slice_get ts j ≡ Some u → t.bit ≡ u.bit → i ≡ j
 
 -- the law of stretches: of each bit, whatever the branch answers
-abbrev pub StretchesEnd : Type 0
+unfoldable pub StretchesEnd : Type 0
 StretchesEnd =
     (plan : Layout) (script : Script) (ks : List Bounds) → RunsSafely plan script ks → (ts : List Source) → AreSources plan script ks ts
     → (g most : ℕ) → IsEnough (stretch_wants ts g) most → (answers : List Answer) → Holds (stretch_watch ts g most) (no_stretch None) (the_run plan script answers)
 
 -- the law of answers in time: of each service, whatever the branch answers
-abbrev pub AnswersInTime : Type 0
+unfoldable pub AnswersInTime : Type 0
 AnswersInTime =
     (plan : Layout) (script : Script) (ks : List Bounds) → RunsSafely plan script ks → (ts : List Source) → AreSources plan script ks ts
     → (s : ℕ) (source : Source) → slice_get ts s ≡ Some source → (start : ℕ) → StartsBy ts source start
@@ -53,14 +53,14 @@ abbrev pub lowest_watch : List Source → Watch (Unit {0}) (Unit {0})
 lowest_watch ts = record { step = no_count; at_piece = CallsLowest ts; at_stop = AnyStop; at_end = Any }
 
 -- the law of patterns: each operation calls the service of the lowest bit that has one, or none where none has
-abbrev pub LowestAreCalled : Type 0
+unfoldable pub LowestAreCalled : Type 0
 LowestAreCalled =
     (plan : Layout) → IsPlan plan → (script : Script) (ks : List Bounds) (ts : List Source) → AreSources plan script ks ts
     → (answers : List Answer) → Holds (lowest_watch ts) nothing (the_run plan script answers)
 
 -- the law of look-at-mes: where services clear their own look-at-mes and hide none, and modules do what a user believes of them, each look-at-me is
 -- answered in time, and none waits longer
-abbrev pub LookAtMesAreAnswered : Type 0
+unfoldable pub LookAtMesAreAnswered : Type 0
 LookAtMesAreAnswered =
     (plan : Layout) → IsPlan plan → (script : Script) (ks : List Bounds) → RunsSafely plan script ks → (ts : List Source) → AreSources plan script ks ts
     → (s : ℕ) (source : Source) → slice_get ts s ≡ Some source → (start : ℕ) → StartsBy ts source start

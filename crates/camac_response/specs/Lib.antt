@@ -4,7 +4,6 @@ pub mod Lams
 pub mod Laws
 pub mod Served
 pub mod Reach
-pub mod First
 pub mod Unkept
 pub mod Twice
 pub mod Checked

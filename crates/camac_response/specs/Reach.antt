@@ -85,7 +85,7 @@ pub record IsDecided (plan : Layout) (script : Script) (ts : List Source) (g i :
   pub clears : (t : Source) → slice_get ts i ≡ Some t → is_up_to g t ≡ true → MakesOne plan script v (clears (plan_clears plan) lam)
 
 -- the law of decisions: where this is decided of each service, all services do what is asked of them along every run
-abbrev pub DecidedServe : Type 0
+unfoldable pub DecidedServe : Type 0
 DecidedServe =
     (plan : Layout) → IsPlan plan → (script : Script) (ks : List Bounds) (ts : List Source) → AreSources plan script ks ts
     → (g : ℕ)

@@ -27,7 +27,7 @@ ServesItself plan script ts by_plan g i v =
     page (service_meaning (context plan script) 65535 v b answers)
 
 -- the law of services: where each does this, all do what is asked of them along every run
-abbrev pub ServicesServe : Type 0
+unfoldable pub ServicesServe : Type 0
 ServicesServe =
     (plan : Layout) → IsPlan plan → (script : Script) (ks : List Bounds) (ts : List Source) → AreSources plan script ks ts → (by_plan : Clears) (g : ℕ)
     → ((i : ℕ) (v : Service) → slice_get script.services i ≡ Some v → ServesItself plan script ts by_plan g i v)

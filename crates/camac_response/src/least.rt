@@ -3,7 +3,7 @@
 ghost use Rattle.std.specs.Prelude.{◌≡◌, IfOk};
 ghost use Rattle.camac_lang.specs.View.{statement_of, statements_of};
 ghost use Rattle.camac_commands.specs.Commands.{behind, behind_block, detail_told, made_alone};
-ghost use Rattle.camac_response.specs.First.{asks, first_block, first_in, first_made, least_line, lesser, lines_of, with_line};
+ghost use Rattle.camac_response.specs.Unkept.{asks, first_block, first_in, first_made, least_line, lesser, lines_of, with_line};
 
 use crate::bodies::{Asked, told_at, told_over};
 use crate::command::{could_clear, could_hide};

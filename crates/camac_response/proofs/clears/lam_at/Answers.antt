@@ -1,5 +1,5 @@
 use Rattle.std.proofs.Common.{sym}
-use Rattle.camac_response.proofs.LamPlaces.{lam_there, no_lam}
+use Rattle.camac_response.proofs.Lams.{lam_there, no_lam}
 use Rattle.camac_response.proofs.clears.lam_at.Goals as goal
 
 pub returns-in-Some : goal.returns-in-Some

@@ -1,7 +1,7 @@
 use Rattle.std.proofs.Common.{◌≡◌, drop}
 use Rattle.camac_lang.specs.View.{statements_of}
 use Rattle.camac_commands.specs.Commands.{behind_block}
-use Rattle.camac_response.specs.First.{asks, first_block}
+use Rattle.camac_response.specs.Unkept.{asks, first_block}
 use Rattle.camac_response.proofs.least.+first.Given as goal
 
 abbrev pub invariant-block_line-statements : goal.invariant-block_line-statements

@@ -1,5 +1,0 @@
-use Rattle.camac_laws.proofs.Regions as shown
-use Rattle.camac_laws.proofs.laws.widths_are_all.Goals as goal
-
-pub returns : goal.returns
-returns c = shown.widths_are_all
