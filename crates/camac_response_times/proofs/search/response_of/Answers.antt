@@ -3,8 +3,7 @@ use Rattle.std.specs.Prelude.{option_map, option_and_then}
 use Rattle.std.proofs.lemmas.Option.{slice_get_read}
 use Rattle.camac_response_times.specs.Found.{answer, told}
 use Rattle.camac_response_times.specs.Rounds.{most_rounds}
-use Rattle.camac_response_times.proofs.Answered.{no_stretch, no_stretch_found, by_stretch, fits}
-use Rattle.camac_response_times.proofs.Calls.{laid_out}
+use Rattle.camac_response_times.proofs.Answered.{no_stretch, no_stretch_found, by_stretch, fits, laid_out}
 use Rattle.camac_response_times.proofs.Load.{overloaded}
 use Rattle.camac_response_times.proofs.search.response_of.Goals as goal
 
