@@ -5,7 +5,7 @@ use Rattle.camac_response_times.specs.declared.source.Source.{Source}
 use Rattle.camac_response_times.specs.declared.search.Settled.{Settled}
 use Rattle.camac_response_times.specs.Response.{before, calls_within, stretch_wants, called_within, period, start_wants}
 use Rattle.camac_response_times.specs.Rounds.{settle, greatest_wait, response, most_rounds, most_cycles, response_in}
-use Rattle.camac_response_times.specs.Found.{answer, told, gathered, is_meant, within}
+use Rattle.camac_response_times.specs.Found.{answer, answer_with, gathered, is_meant, within}
 use Rattle.camac_response_times.proofs.Rates.{responses_fit}
 use Rattle.std.proofs.lemmas.Option.{same_Some}
 use Rattle.camac_response_times.specs.declared.search.Wanted.{Wanted}
@@ -102,7 +102,7 @@ module _ (ts : List Source) (s : Source) where
       }
 
 pub no_stretch : (ts : List Source) (s : Source) → settle (stretch_wants ts s.bit) most_rounds 0 ≡ None → answer ts s ≡ None
-no_stretch ts s e = ap (λ o. option_and_then (λ most. option_map (told s most) (response ts s)) (option_map (λ z. z.cycles) o)) e
+no_stretch ts s e = ap (λ o. option_and_then (λ most. option_map (answer_with s most) (response ts s)) (option_map (λ z. z.cycles) o)) e
 
 module _ (ts : List Source) (s : Source) (blocked : ℕ) (is : blocked ≡ before s.bit ts) where
   pub in_stretch : (r : ℕ) → settle (wants blocked s.bit true ts) r 0 ≡ settle (stretch_wants ts s.bit) r 0
@@ -115,10 +115,10 @@ module _ (ts : List Source) (s : Source) (blocked : ℕ) (is : blocked ≡ befor
     pub by_calls : response ts s ≡ greatest_wait ts s (calls_within s.every z.cycles) 1 z.rounds 0
     by_calls = found_some ts s most_rounds z (sym (in_stretch most_rounds) ∙ found)
 
-    pub by_stretch : answer ts s ≡ option_map (told s z.cycles) (greatest_wait ts s (calls_within s.every z.cycles) 1 z.rounds 0)
+    pub by_stretch : answer ts s ≡ option_map (answer_with s z.cycles) (greatest_wait ts s (calls_within s.every z.cycles) 1 z.rounds 0)
     by_stretch =
-        ap (λ o. option_and_then (λ most. option_map (told s most) (response ts s)) (option_map (λ y. y.cycles) o)) (sym (in_stretch most_rounds) ∙ found)
-        ∙ ap (option_map (told s z.cycles)) by_calls
+        ap (λ o. option_and_then (λ most. option_map (answer_with s most) (response ts s)) (option_map (λ y. y.cycles) o)) (sym (in_stretch most_rounds) ∙ found)
+        ∙ ap (option_map (answer_with s z.cycles)) by_calls
 
     pub fits : (i start : ℕ) → slice_get ts i ≡ Some s → greatest_wait ts s (calls_within s.every z.cycles) 1 z.rounds 0 ≡ Some start → start + s.cycles ≤ most_cycles
     fits i start at e =
