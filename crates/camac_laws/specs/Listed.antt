@@ -41,12 +41,12 @@ AreInOrder [] = Unit {0}
 AreInOrder (l ∷ ls) = AreBehind l ls × AreInOrder ls
 
 -- one of the lines tells of this function at this sub-address
-abbrev pub Tells : CommandLine → (function sub_address : ℕ) → Type 0
-Tells l f a = (l.function ≡ f) × (l.first ≤ a) × (a ≤ l.last)
+abbrev pub HasCommand : CommandLine → (function sub_address : ℕ) → Type 0
+HasCommand l f a = (l.function ≡ f) × (l.first ≤ a) × (a ≤ l.last)
 
 abbrev pub OneTells : List CommandLine → (function sub_address : ℕ) → Type 0
 OneTells [] f a = ⊥
-OneTells (l ∷ ls) f a = Tells l f a ⊎ OneTells ls f a
+OneTells (l ∷ ls) f a = HasCommand l f a ⊎ OneTells ls f a
 
 -- The text is lines in order, each of which is declared, and each command that is declared stands in one of them: in one alone, since each line
 -- is behind all before it.

@@ -153,7 +153,6 @@ pub sum_within : (r s i : Interval) (v w : ℕ) → add r s ≡ Some i → IsWit
 sum_within r s i v w e hv hw =
     contains_values sum_of r s i (add r s) e (sums_exact r s (has_number r v hv) (has_number s w hw)) v w hv hw
 
-
 -- what a comparison or a meet leaves: a number, and it is in the interval
 abbrev pub IsKept : Option Interval → ℕ → Type 0
 IsKept None v = ⊥

@@ -11,7 +11,7 @@ use Rattle.camac_model.specs.Fine.{Bounds}
 use Rattle.camac_model.specs.Headline.{Moment, Progress, begun, spent, moment_after, CostStays, first_moment, InService, StepsFit}
 use Rattle.camac_response_times.specs.declared.source.Source.{Source}
 use Rattle.camac_response_times.specs.Response.{calls_within, is_up_to, before, stretch_wants, IsEnough}
-use Rattle.camac_response.specs.Stretch.{Stretch, no_stretch, one_more, called, calling, longer, stretch_after, IsWithin}
+use Rattle.camac_response.specs.Stretch.{Stretch, no_stretch, one_more, called, calling, longer, stretch_after, IsNoLonger}
 use Rattle.camac_response_times.proofs.Wanted.{calls_mono, before_most}
 use Rattle.camac_response.proofs.Sources.{AreKept, one_more_same, one_more_le, one_more_at, spent_on, spent_within, spent_more, mapped_at}
 use Rattle.camac_model.specs.Run.{the_run}
@@ -164,7 +164,7 @@ unfolding StretchesEnd
 stretches_end plan script ks safe ts are g most wanted answers =
     let y : Budget ts g = stretch_budget ts g most wanted in
     let cover : AreCovered ks ts = covered ks ts are.cycles in
-    follows ks ts g (λ m x. Paid ks ts g cover y m.progress x) (λ x p. IsWithin most (stretch_after ts g x p))
+    follows ks ts g (λ m x. Paid ks ts g cover y m.progress x) (λ x p. IsNoLonger most (stretch_after ts g x p))
     (λ m x p h c.
     let n : Paid ks ts g cover y (moment_after m p).progress (stretch_after ts g x p) = paid_after ks ts g cover y m x p h c in
     (record { within = λ kept. within ks ts g cover y (moment_after m p).progress (stretch_after ts g x p) n kept tt }, n))

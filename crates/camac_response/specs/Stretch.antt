@@ -44,13 +44,13 @@ stretch_after ts g x (lock_released c) = x
 stretch_after ts g x (event_left e) = record x { serving = None }
 
 -- while the rates are kept, no more than these cycles have elapsed
-pub record IsWithin (most : ℕ) (x : Stretch) : Type 0 where
+pub record IsNoLonger (most : ℕ) (x : Stretch) : Type 0 where
   pub within : IsTrue x.kept → x.elapsed ≤ most
 
 -- at each piece of a run a stretch of the bit is within these cycles
 abbrev pub stretch_watch : List Source → (bit most : ℕ) → Watch Stretch (Unit {0})
 stretch_watch ts g most =
-    record { step = stretch_after ts g; at_piece = λ x p. IsWithin most (stretch_after ts g x p); at_stop = AnyStop; at_end = Any }
+    record { step = stretch_after ts g; at_piece = λ x p. IsNoLonger most (stretch_after ts g x p); at_stop = AnyStop; at_end = Any }
 
 -- service s is in progress, and its n-th call in the stretch
 abbrev pub IsServing : ℕ → Stretch → Type 0
@@ -58,7 +58,7 @@ IsServing s x = x.serving ≡ Some s
 
 -- the n-th call, or the n-th service, is in time: so many cycles after n - 1 periods
 abbrev pub InTime : ℕ → Source → ℕ → Stretch → Type 0
-InTime s source cycles x = IsWithin ((x.calls s - 1) * period source.every + cycles) x
+InTime s source cycles x = IsNoLonger ((x.calls s - 1) * period source.every + cycles) x
 
 -- at each call of service s, at each piece of it and at its event: it is in time
 abbrev pub AnswersBy : List Source → ℕ → Source → (start : ℕ) → Stretch → Piece → Type 0

@@ -13,6 +13,7 @@ use Rattle.camac_response_times.specs.Rates.{ResponsesAreLeast, ResponsesWait, I
 use Rattle.camac_response_times.proofs.Rounds.{Monotone, settled, holding, stretch_mono, start_mono, response_starts, response_least}
 
 pub responses_are_least : ResponsesAreLeast
+unfolding ResponsesAreLeast
 responses_are_least ts s r start is = record { starts = response_starts ts s r start is; least = λ other by. response_least ts s r start other is by }
 
 once_at_least : (every : Option ℕ) (e : ℕ) → 1 ≤ calls_within every e

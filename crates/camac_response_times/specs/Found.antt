@@ -37,11 +37,11 @@ abbrev pub TakesAll : (load e called : ℕ) → Type 0
 TakesAll load e called = 2 ^ 32 * (e + 1) ≤ load * (e + 1) + 2 ^ 32 * called
 
 -- what is told of a service in a longest stretch of so many cycles that is called so many cycles after its look-at-me at most
-abbrev pub told : Source → (longest start : ℕ) → Response
-told s most start = record { start = start; end = start + s.cycles; longest = most }
+abbrev pub answer_with : Source → (longest start : ℕ) → Response
+answer_with s most start = record { start = start; end = start + s.cycles; longest = most }
 
 abbrev pub answer : List Source → Source → Option Response
-answer ts s = option_and_then (λ most. option_map (told s most) (response ts s)) (longest ts s)
+answer ts s = option_and_then (λ most. option_map (answer_with s most) (response ts s)) (longest ts s)
 
 -- the response of the service of this number
 abbrev pub response_at : List Source → ℕ → Option Response

@@ -11,7 +11,7 @@ pub record IsLeastStart (ts : List Source) (s : Source) (start : ℕ) : Type 0 w
   pub starts : StartsBy ts s start
   pub least : (other : ℕ) → StartsBy ts s other → start ≤ other
 
-abbrev pub ResponsesAreLeast : Type 0
+unfoldable pub ResponsesAreLeast : Type 0
 ResponsesAreLeast = (ts : List Source) (s : Source) (rounds start : ℕ) → response_in ts s rounds ≡ Some start → IsLeastStart ts s start
 
 -- a call may have to wait for the service in progress

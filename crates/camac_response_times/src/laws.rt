@@ -3,6 +3,7 @@
 ghost use Rattle.camac_response_times.specs.Rates.{LowerRatesEase, ResponsesAreLeast, ResponsesFit, ResponsesWait, StretchesAreLeast};
 
 /// The response that is found is one, and the least.
+#[tactic(auto, using(crate::proofs::Rates::responses_are_least))]
 pub fn responses_are_least()
     ensures { ResponsesAreLeast }
 {}

@@ -1,10 +1,10 @@
 -- One cycle at an address that is allowed.
-use Rattle.std.proofs.Common.{◌≡◌, ℕ, ◌+◌, ◌<◌, ◌≤◌, Bool, true, false, List, [], ◌∷◌, length, Some, refl, sym, ap, ◌∙◌, subst, ◌⊎◌, inl, inr, ⊎_elim, arith}
+use Rattle.std.proofs.Common.{◌≡◌, ℕ, ◌+◌, ◌<◌, ◌≤◌, Bool, true, false, List, [], ◌∷◌, length, Some, refl, sym, ap, ◌∙◌, subst, ◌⊎◌, inl, inr, ⊎_elim, arith, Option, None}
 use Rattle.std.specs.Prelude.{◌||◌, nat_eq, nat_le, unwrap_or, if◌then◌else◌}
-use Rattle.std.proofs.lemmas.Bool.{eqb-true, leb-true, false≢true}
+use Rattle.std.proofs.lemmas.Bool.{eqb-true, leb-true, false≢true, cond_both}
 use Rattle.camac_range.specs.Interval.{Interval, IsWithin}
 use Rattle.camac_branch.specs.Address.{Address}
-use Rattle.camac_branch.specs.Branch.{Reply, Answer, reply_to}
+use Rattle.camac_branch.specs.Branch.{Reply, Answer, reply_to, Branch, effect_in, branch_after, with_crate}
 use Rattle.camac_branch.specs.Plan.{Layout, crate_waits}
 use Rattle.camac_crate.specs.Lock.{permitted}
 use Rattle.camac_model.specs.State.{State, stepped}
@@ -21,7 +21,22 @@ use Rattle.camac_rules.specs.Addresses.{crate_end, is_among, waits_in, cycle_cos
 use Rattle.camac_rules.proofs.Stores.{Place, Inside}
 use Rattle.camac_rules.proofs.Walks.{greatest_from_at}
 use Rattle.camac_rules.proofs.Sound.{AreEasy, Paid, step, SafePiece, StopsWell, EndsWell, Sound}
-use Rattle.camac_rules.proofs.Locks.{cycle_locks}
+use Rattle.camac_crate.specs.declared.command.ControllerOp.{ControllerOp}
+use Rattle.camac_crate.specs.Controller.{controller}
+use Rattle.camac_crate.specs.State.{CrateBits, effect}
+
+-- A cycle leaves each crate locked or free as it was.
+
+placed : (b : Branch) (c d : ℕ) (bits : CrateBits) → (with_crate c (record (b c) { bits = bits }) b d).locked ≡ (b d).locked
+placed b c d bits =
+    cond_both (nat_eq d c) (record (b c) { bits = bits }) (b d) (λ j. j.locked ≡ (b d).locked) (λ same. ap (λ i. (b i).locked) (sym (eqb-true d c same))) (λ other. refl)
+
+effects_lock : (b : Branch) (c d : ℕ) (o : Option ControllerOp) → (effect_in c o b d).locked ≡ (b d).locked
+effects_lock b c d None = refl
+effects_lock b c d (Some op) = placed b c d (effect op (b c).bits)
+
+pub cycle_locks : (b : Branch) (at : Address) (f d : ℕ) → (branch_after at f b d).locked ≡ (b d).locked
+cycle_locks b at f d = effects_lock b at.crate_no d (controller at.station at.sub_address f)
 
 either : (b c : Bool) → (b || c) ≡ true → (b ≡ true) ⊎ (c ≡ true)
 either true c e = inl refl

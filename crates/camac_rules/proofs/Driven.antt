@@ -26,10 +26,9 @@ use Rattle.camac_rules.specs.Costs.{transfer_costs}
 use Rattle.camac_rules.specs.Addresses.{is_among, cycle_cost}
 use Rattle.camac_rules.specs.Cycles.{may_write}
 use Rattle.camac_rules.proofs.Stores.{Place, around_of, AreLocked, IsSetInside, Inside, variables_write}
-use Rattle.camac_rules.proofs.Locks.{cycle_locks}
+use Rattle.camac_rules.proofs.Cycles.{cycle_locks, permitted_inside, cost_counted, OneUsed, used, not_easy, none_left}
 use Rattle.camac_rules.proofs.Regions.{IsAllowed}
 use Rattle.camac_rules.proofs.Sound.{words_push, AreEasy, Paid, step, SafePiece, Stopped, StopsWell, EndsWell, Sound}
-use Rattle.camac_rules.proofs.Cycles.{permitted_inside, cost_counted, OneUsed, used, not_easy, none_left}
 use Rattle.camac_rules.proofs.Actions.{HasWidths, pow_small, written_other}
 
 -- the words that a transfer has put into the event after these replies; a write puts none

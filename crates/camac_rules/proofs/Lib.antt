@@ -6,7 +6,6 @@ pub mod Conditions
 pub mod Walks
 pub mod Regions
 pub mod Sound
-pub mod Locks
 pub mod Cycles
 pub mod Actions
 pub mod Calls
@@ -17,13 +16,11 @@ pub mod Frame
 pub mod Heads
 pub mod Turns
 pub mod ForLoops
-pub mod EachLoops
 pub mod EachCosts
 pub mod Falls
 pub mod WhileLoops
 pub mod Driven
 pub mod Blocks
-pub mod Windows
 pub mod Scans
 pub mod Lockless
 pub mod Routines

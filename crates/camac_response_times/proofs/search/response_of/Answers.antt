@@ -1,10 +1,9 @@
 use Rattle.std.proofs.Common.{◌≡◌, ◌+◌, ◌≤◌, Some, length, true, refl, sym, ap, ◌∙◌, slice_get, arith}
 use Rattle.std.specs.Prelude.{option_map, option_and_then}
 use Rattle.std.proofs.lemmas.Option.{slice_get_read}
-use Rattle.camac_response_times.specs.Found.{answer, told}
+use Rattle.camac_response_times.specs.Found.{answer, answer_with}
 use Rattle.camac_response_times.specs.Rounds.{most_rounds}
-use Rattle.camac_response_times.proofs.Answered.{no_stretch, no_stretch_found, by_stretch, fits}
-use Rattle.camac_response_times.proofs.Calls.{laid_out}
+use Rattle.camac_response_times.proofs.Answered.{no_stretch, no_stretch_found, by_stretch, fits, laid_out}
 use Rattle.camac_response_times.proofs.Load.{overloaded}
 use Rattle.camac_response_times.proofs.search.response_of.Goals as goal
 
@@ -34,7 +33,7 @@ returns-in_err-start c =
     c.from_residual-in_err-start.ensures
     ∙ sym (ap (option_and_then (answer c.args.sources.now)) (slice_get_read c.args.sources.now (length c.args.sources.now) c.args.number c.in-Some.source.now refl there.3.0 (there.3.1 c.in-Some.source.now))
     ∙ by_stretch c.args.sources.now c.in-Some.source.now c.from-blocked.result (c.from-blocked.ensures ∙ c.most_before.ensures) c.in_ok-longest.longest (sym (c.in_ok-longest.ensures ∙ laid_out c.from-blocked.result c.in-Some.source.now.bit true c.args.sources.now c.gather.result c.gather.ensures.same most_rounds))
-    ∙ ap (option_map (told c.in-Some.source.now c.in_ok-longest.longest.cycles)) (sym c.in_err-start.ensures))
+    ∙ ap (option_map (answer_with c.in-Some.source.now c.in_ok-longest.longest.cycles)) (sym c.in_err-start.ensures))
 
 pub overflow_cast-result : goal.overflow_cast-result
 overflow_cast-result c = let s = small c in omega (arith, s)
@@ -50,7 +49,7 @@ unfolding most_rounds
 returns c =
     sym (ap (option_and_then (answer c.args.sources.now)) (at_number c)
     ∙ by_stretch c.args.sources.now c.in-Some.source.now c.from-blocked.result (c.from-blocked.ensures ∙ c.most_before.ensures) c.in_ok-longest.longest (sym (c.in_ok-longest.ensures ∙ laid_out c.from-blocked.result c.in-Some.source.now.bit true c.args.sources.now c.gather.result c.gather.ensures.same most_rounds))
-    ∙ ap (option_map (told c.in-Some.source.now c.in_ok-longest.longest.cycles)) (sym c.in_ok-start.ensures))
+    ∙ ap (option_map (answer_with c.in-Some.source.now c.in_ok-longest.longest.cycles)) (sym c.in_ok-start.ensures))
 
 pub returns-then-is_overloaded : goal.returns-then-is_overloaded
 unfolding most_rounds
