@@ -43,7 +43,7 @@ class CommandLines(Room):
     def test_each(self):
         text = (TOP / "tests/command_lines.text").read_text()
         parts = re.split(r"^(?=\$ camac )", text, flags=re.MULTILINE)[1:]
-        self.assertEqual(len(parts), 28)
+        self.assertEqual(len(parts), 29)
         for part in parts:
             line = part.partition("\n")[0].removeprefix("$ camac ")
             with self.subTest(line):

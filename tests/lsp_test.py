@@ -348,6 +348,8 @@ class Shown(Served):
         (it,) = self.client.found(self.open(SCRIPT.replace("within 6", "within 5")))
         self.assertTrue(it["message"].startswith("more cycles than annotated. The service may take 6 dataway cycles, its heading allows 5.\nWhy: "))
         self.assertTrue(it["codeDescription"]["href"].endswith("docs/REFUSALS.md#e12"))
+        for it in self.client.found(self.open(SCRIPT.replace("put s", "put s - 1").replace("6 0", "9 0"))):
+            self.assertRegex(it["message"], r"\. .+\.\nWhy: .+\nFix: ")
         (it,) = self.client.found(self.open("var\t5\n"))
         self.assertTrue(it["message"].startswith("unexpected token. Found `5`"), it["message"])
 

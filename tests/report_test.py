@@ -252,13 +252,13 @@ class Commands(laboratory.BenchCase):
         self.assertEqual((told, picture.read_text()), (f"camac: {picture} is an input: it would be lost\n", STRAIGHT))
 
     def test_an_older_program(self):
-        """Of a program without `costs` a page is made, and says what it lacks."""
+        """Of a program without `costs` and `tell` a page is made, and says what it lacks."""
         plan, script, answers = self.files
         lines = [
             "#!/bin/sh",
             "case $1 in",
-            f"--help) '{laboratory.PROGRAM}' --help | grep -v '^  costs ' ;;",
-            "costs) exit 2 ;;",
+            f"--help) '{laboratory.PROGRAM}' --help | grep -v -e '^  costs ' -e '^  tell ' ;;",
+            "costs | tell) exit 2 ;;",
             f"*) exec '{laboratory.PROGRAM}' \"$@\" ;;",
             "esac",
         ]

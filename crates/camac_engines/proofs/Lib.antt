@@ -4,3 +4,4 @@ pub mod Findings
 pub mod Told
 pub mod Responses
 pub mod Whole
+pub mod Ends

@@ -1,6 +1,6 @@
 -- What is told of a text is all that was found of it.
 use Rattle.std.proofs.Common.{◌≡◌, ℕ, List, ◌++◌, Option, Some, sym, ap, subst, ◌∙◌}
-use Rattle.std.specs.Prelude.{Result, Ok, Err}
+use Rattle.std.specs.Prelude.{Result, Ok}
 use Rattle.camac_text.specs.Parser.{script_of}
 use Rattle.camac_branch.specs.Plan.{Layout}
 use Rattle.camac_checked.specs.Checked.{CheckedScript}

@@ -1,5 +1,5 @@
 -- What `camac tell` tells of a plan and a script.
-use Rattle.std.specs.Prelude.{◌≡◌, ℕ, List, ◌++◌, Option, Some, None, Result, Ok, Err, flat_map}
+use Rattle.std.specs.Prelude.{◌≡◌, ℕ, List, ◌++◌, Some, None, Result, Ok, Err, flat_map}
 use Rattle.camac_lang.specs.Tree.{Script}
 use Rattle.camac_branch.specs.Plan.{Layout}
 use Rattle.camac_tokens.specs.Fault.{Fault as TextFault}
@@ -52,3 +52,9 @@ TellsJudged plan text None = λ outcome whole. ⊥
 
 abbrev pub TellsAll : Layout → (text : List ℕ) → Outcome → List ℕ → Type 0
 TellsAll plan text = TellsJudged plan text (accepted plan text)
+
+-- it accepts what `check` accepts, and refuses what that refuses
+abbrev pub TellEndsAsCheck : Type 0
+TellEndsAsCheck =
+    (plan : Layout) (text : List ℕ) (outcome : Outcome) (whole : List ℕ) → TellsAll plan text outcome whole
+    → (told : List ℕ) × (report plan text ≡ Some (outcome, told))

@@ -11,6 +11,7 @@ mod fault;
 mod headings;
 mod judging;
 mod known;
+pub mod laws;
 mod outcome;
 mod plan;
 mod reading;

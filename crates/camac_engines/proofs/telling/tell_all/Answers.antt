@@ -2,7 +2,6 @@ use Rattle.std.proofs.Common.{subst}
 use Rattle.std.specs.Prelude.{Ok}
 use Rattle.camac_word.specs.Watched.{inner_of}
 use Rattle.camac_engines.specs.Accepted.{Accepts, accepted}
-use Rattle.camac_engines.specs.Report.{report, report_of}
 use Rattle.camac_engines.specs.declared.judging.Judged.{Judged}
 use Rattle.camac_engines.proofs.Whole.{bounds_told, refusals_told}
 use Rattle.camac_engines.proofs.telling.tell_all.Goals as goal
