@@ -18,6 +18,8 @@ uint32_t camac_raw_open(void *run, const uint8_t *plan, size_t plan_size, const 
 uint32_t camac_raw_wants(void *run, void *want);
 size_t camac_raw_ahead(void *run, uint8_t *bytes, size_t room);
 size_t camac_raw_back(void *run, uint8_t *bytes, size_t room);
+size_t camac_raw_transfer(void *run, uint8_t *bytes, size_t room);
+size_t camac_raw_to_write(void *run, uint8_t *bytes, size_t room);
 uint32_t camac_raw_next(void *run, const void *answer, void *progress);
 uint32_t camac_raw_step(void *run, const void *answer, void *progress, void *want);
 size_t camac_raw_words(void *run, uint8_t *bytes, size_t room);
@@ -54,10 +56,14 @@ static int is_later(size_t size, size_t known) { return size > known && size <= 
 /* Puts zeros behind the size of a struct. */
 #define CLEAR(its) memset(&(its)->size + 1, 0, (its)->size - sizeof (its)->size)
 
-/* Puts zeros into the spare words of a struct, and where this library does not know it. */
-#define CLEAR_SPARE(its) (memset((its)->spare, 0, sizeof (its)->spare), (its)->size > sizeof *(its) ? clear_rest((its), (its)->size, sizeof *(its)) : (void)0)
+/* Puts zeros into a struct from a field on, also where this library does not know it. */
+#define CLEAR_FROM(its, type, field) (memset(&(its)->field, 0, sizeof(type) - offsetof(type, field)), clear_rest((its), (its)->size, sizeof(type)))
+#define CLEAR_SPARE(progress) CLEAR_FROM(progress, camac_progress, spare)
+#define CLEAR_BLOCK(want) CLEAR_FROM(want, camac_want, mode)
 
-static void clear_rest(void *its, size_t size, size_t known) { memset((char *)its + known, 0, size - known); }
+static void clear_rest(void *its, size_t size, size_t known) {
+    if (size > known) memset((char *)its + known, 0, size - known);
+}
 
 static int is_session(const camac_session *s) {
     return s && s->size >= sizeof *s && s->version - CAMAC_VERSION_NUMBER / 100u * 100u < 100u;
@@ -159,15 +165,42 @@ int camac_open(camac_session *s, const void *plan, size_t plan_size, const void 
     size = told(size, &unasked);
     if (!is_session(s) || IS_NULL(plan, plan_size) || IS_NULL(script, script_size) || IS_NULL(text, room)) return CAMAC_MISUSE;
     const uint32_t code = camac_raw_open(run_of(s), IN(plan, plan_size), IN(script, script_size), OUT(text, room), size);
-    if (code == CAMAC_OK) s->camac_is_short = s->camac_serving = 0;
+    if (code == CAMAC_OK) s->camac_ways = s->camac_serving = 0;
     return (int)code;
+}
+
+/* The ways of a session: the blocks of camac_blocks, and whether pauses may come so soon that lists have one operation. */
+#define MODES 15u
+#define IS_SHORT 16u
+
+/* What is left of the transfer whose cycle is wanted; `goes_on` says whether there is another cycle after the next one, by the Q of that. */
+typedef struct transfer_left {
+    uint32_t mode, last_n, last_a, cycles, words, goes_on[2];
+} transfer_left;
+
+static int is_transfer(const camac_session *s, transfer_left *its) { return camac_raw_transfer(run_of(s), (uint8_t *)its, sizeof *its) > 0; }
+
+/* Makes a cycle that is wanted the block that it begins, if the session's controller makes such blocks. */
+static void as_block(const camac_session *s, camac_want *want) {
+    transfer_left its;
+    const uint32_t modes = s->camac_ways & MODES;
+    if (!modes || want->kind != CAMAC_CYCLE || (want->data == CAMAC_WRITE && !(modes & CAMAC_WRITES))) return;
+    if (!is_transfer(s, &its) || !(its.mode & modes)) return;
+    want->kind = CAMAC_BLOCK;
+    want->mode = (uint8_t)its.mode;
+    want->last_n = (uint8_t)its.last_n;
+    want->last_a = (uint8_t)its.last_a;
+    want->cycles = its.cycles;
+    want->words = its.words;
 }
 
 int camac_wants(const camac_session *s, camac_want *want) {
     if (!IS_KNOWN(want)) return CAMAC_MISUSE;
     if (!is_session(s)) return CLEAR(want), CAMAC_MISUSE;
-    CLEAR_SPARE(want);
-    return (int)camac_raw_wants(run_of(s), &want->kind);
+    CLEAR_BLOCK(want);
+    const int code = (int)camac_raw_wants(run_of(s), &want->kind);
+    as_block(s, want);
+    return code;
 }
 
 /* The struct behind this one in a list, which gets the same size. */
@@ -200,7 +233,9 @@ static size_t call_of_wants(size_t (*call)(void *, uint8_t *, size_t), const cam
 }
 
 size_t camac_ahead(const camac_session *s, camac_want *want, size_t room) {
-    return call_of_wants(camac_raw_ahead, s, want, room > 1 && is_session(s) && s->camac_is_short ? 1 : room);
+    const size_t count = call_of_wants(camac_raw_ahead, s, want, room > 1 && is_session(s) && s->camac_ways & IS_SHORT ? 1 : room);
+    if (count) as_block(s, want);
+    return count;
 }
 
 size_t camac_back(const camac_session *s, camac_want *want, size_t room) { return call_of_wants(camac_raw_back, s, want, room); }
@@ -235,12 +270,40 @@ int camac_next_many(camac_session *s, const camac_answer *answer, camac_progress
     return code;
 }
 
+int camac_blocks(camac_session *s, uint32_t modes) {
+    camac_want want = CAMAC_WANT;
+    if (camac_wants(s, &want) == CAMAC_MISUSE) return CAMAC_MISUSE;
+    if (modes & ~MODES) return CAMAC_RANGE;
+    s->camac_ways = (s->camac_ways & IS_SHORT) | modes;
+    return CAMAC_OK;
+}
+
+int camac_block(camac_session *s, const camac_answer *answer, camac_progress *progress, size_t count, size_t *taken) {
+    size_t unasked;
+    camac_want want = CAMAC_WANT;
+    transfer_left its;
+    taken = told(taken, &unasked);
+    if (!IS_KNOWN(progress)) return CAMAC_MISUSE;
+    CLEAR(progress);
+    if (!count || camac_wants(s, &want) != CAMAC_OK || want.kind != CAMAC_BLOCK) return CAMAC_MISUSE;
+    for (size_t i = 0; i < count; i++) {
+        if (i) answer = (const void *)((const char *)answer + answer->size);
+        is_transfer(s, &its);
+        const int code = camac_next(s, answer, progress);
+        if (code == CAMAC_OK || (code == CAMAC_BUSY && progress->kind)) ++*taken;
+        if (code != CAMAC_OK || !its.goes_on[progress->q]) return code;
+    }
+    return CAMAC_OK;
+}
+
 int camac_step(camac_session *s, const camac_answer *answer, camac_progress *progress, camac_want *want) {
     if (!IS_KNOWN(progress) || !IS_KNOWN(want)) return CAMAC_MISUSE;
     if (!is_session(s) || !IS_KNOWN(answer) || !is_known(answer)) return CLEAR(progress), CLEAR(want), CAMAC_MISUSE;
     CLEAR_SPARE(progress);
-    CLEAR_SPARE(want);
-    return served(s, progress, camac_raw_step(run_of(s), &answer->word, &progress->kind, &want->kind));
+    CLEAR_BLOCK(want);
+    const int code = served(s, progress, camac_raw_step(run_of(s), &answer->word, &progress->kind, &want->kind));
+    as_block(s, want);
+    return code;
 }
 
 /* Numbers of 32 bits, which an export writes as bytes. */
@@ -253,6 +316,11 @@ static size_t call_of_words(size_t (*call)(void *, uint8_t *, size_t), const cam
 }
 
 size_t camac_words(const camac_session *s, uint32_t *words, size_t room) { return call_of_words(camac_raw_words, s, words, room); }
+
+size_t camac_block_words(const camac_session *s, uint32_t *words, size_t room) {
+    camac_want want = CAMAC_WANT;
+    return camac_wants(s, &want) == CAMAC_OK && want.kind == CAMAC_BLOCK ? call_of_words(camac_raw_to_write, s, words, room) : 0;
+}
 
 size_t camac_held(const camac_session *s, uint32_t *crates, size_t room) { return call_of_words(camac_raw_held, s, crates, room); }
 
@@ -311,7 +379,7 @@ int camac_abandon(camac_session *s, uint32_t *unlocked, size_t room, size_t *cou
 
 int camac_limit_steps(camac_session *s, uint32_t most) {
     const uint32_t code = is_session(s) ? camac_raw_limit_steps(run_of(s), most) : CAMAC_MISUSE;
-    if (code == CAMAC_OK) s->camac_is_short = most < CAMAC_AHEAD_STEPS;
+    if (code == CAMAC_OK) s->camac_ways = (s->camac_ways & MODES) | (most < CAMAC_AHEAD_STEPS ? IS_SHORT : 0);
     return (int)code;
 }
 
@@ -343,20 +411,28 @@ static void settle(camac_session *s, const camac_branch *branch, void *user, con
     for (const uint8_t *c = its->unlocked; *c; c++) branch->unlock(user, *c);
 }
 
+/* Has the branch make what is wanted, and takes what it answers: enum camac_made. */
+static int one_is_made(camac_session *s, const camac_branch *branch, void *user, const camac_want *want, camac_progress *its, int *code) {
+    const camac_answer nothing = CAMAC_ANSWER;
+    camac_answer answers[CAMAC_BLOCK_ANSWERS];
+    const int is_block = want->kind == CAMAC_BLOCK && branch->block;
+    size_t count = !is_block ? 1 : want->cycles < CAMAC_BLOCK_ANSWERS ? want->cycles : CAMAC_BLOCK_ANSWERS;
+    for (size_t i = 0; i < count; i++) answers[i] = nothing;
+    const int made = is_block ? branch->block(user, s, want, answers, &count) : branch->make(user, want, answers);
+    if (made == CAMAC_MADE) *code = is_block ? camac_block(s, answers, its, count, NULL) : camac_next(s, answers, its);
+    return made;
+}
+
 /* Has the branch make what is wanted until the run ends, and tells how. */
 static int played(camac_session *s, const camac_branch *branch, void *user) {
-    const camac_answer nothing = CAMAC_ANSWER;
     camac_want want = CAMAC_WANT;
     camac_progress its = CAMAC_PROGRESS;
     int code, made;
     while ((code = camac_wants(s, &want)) == CAMAC_OK || code == CAMAC_BUSY) {
-        camac_answer answer = nothing;
         if (code == CAMAC_BUSY) {
             if (branch->pause) branch->pause(user);
             code = camac_go_on(s, &its);
-        } else if ((made = branch->make(user, &want, &answer)) == CAMAC_MADE) {
-            code = camac_next(s, &answer, &its);
-        } else {
+        } else if ((made = one_is_made(s, branch, user, &want, &its, &code)) != CAMAC_MADE) {
             if (made != CAMAC_FAULT || !is_left(s, branch, user)) return CAMAC_OK;
             continue;
         }

@@ -192,6 +192,29 @@ def pairs():
     return [(plan, it) for plan, it in every if call(PROGRAM, "check", plan, it)[0] == 0]
 
 
+class Blocks:
+    """A branch that makes so many cycles of a block at most."""
+
+    blocks = library.Q_STOP + library.Q_REPEAT + library.SCAN + library.WRITES
+
+    def __init__(self, branch, most):
+        self.branch, self.most = branch, most
+
+    def __getattr__(self, name):
+        return getattr(self.branch, name)
+
+    def block(self, its):
+        n, a, made, words = its.n, its.a, [], its.words
+        while len(made) < min(self.most, its.cycles) and words and (n, a) <= (its.last_n, its.last_a):
+            made.append(self.branch.cycle(its.c, n, a, its.f, its.data and its.data[its.words - words]))
+            words -= made[-1].q
+            if its.mode == library.Q_STOP and not made[-1].q:
+                break
+            if its.mode == library.SCAN:
+                n, a = (n, a + 1) if made[-1].q and a < 15 else (n + 1, 0)
+        return made
+
+
 class Headers(Case):
     def compile(self, name, text):
         of_c.compiled(self.room, f"{name}.program", self.write(name, text))
@@ -285,8 +308,8 @@ class Calls(Case):
         return of_c.compiled(self.room, name, HERE / f"{name}.c", **how)
 
     def test_a_consumer_writes_what_the_program_writes(self):
-        """Its listing and its event file of random scripts and of the examples are those of `camac run`, byte for byte, and the same answers in lists do
-        the same."""
+        """Its listing and its event file of random scripts and of the examples are those of `camac run`, byte for byte, and the same answers in lists, and in
+        blocks that end anywhere, do the same."""
         pool = concurrent.futures.ProcessPoolExecutor()
         its = list(itertools.islice(filter(None, pool.map(accepted_script, range(10 * SCRIPTS), chunksize=20)), SCRIPTS))
         pool.shutdown(cancel_futures=True)
@@ -297,8 +320,9 @@ class Calls(Case):
                 (self.room / f"{k}.{kind}").write_bytes(text)
         status, counts = call(self.program("consumer"), self.room, len(its))
         self.assertEqual(status, 0, counts)
-        lists, answers = map(int, counts.split())
+        lists, answers, with_blocks = map(int, counts.split())
         self.assertGreater(answers - lists, len(its))
+        self.assertGreater(lists - with_blocks, 100)
 
         def ran(k):
             words = [self.room / f"{k}.{kind}" for kind in ("plan", "script", "answers", "its_events")]
@@ -310,7 +334,7 @@ class Calls(Case):
         with concurrent.futures.ThreadPoolExecutor(len(os.sched_getaffinity(0))) as pool:
             ends = collections.Counter(pool.map(ran, range(len(its))))
         self.assertGreater(min(ends[it] for it in ("ended", "short", "overrun")), 100)
-        print(f"\nends {dict(ends)}, {answers} answers in {lists} lists", flush=True)
+        print(f"\nends {dict(ends)}, {answers} answers in {lists} lists, {with_blocks} with blocks", flush=True)
 
     def test_codes_sessions_and_threads(self):
         for static in (False, True):
@@ -338,6 +362,15 @@ class Calls(Case):
                     lines, wanted = found.replace("pause\n", "").splitlines(), (NESTED_PLAYED + told).splitlines()
                     self.assertEqual((status, lines if limit else sorted(lines)), (code, wanted if limit else sorted(wanted)))
                     self.assertEqual("pause" in found, limit == 0)
+
+    def test_blocks_in_c_and_cpp(self):
+        """A part of a block, its end, one that fails, and one with a wait too long."""
+        program, yes, no = of_c.compiled(self.room, "play", HERE / "play.cpp"), "1 1 0 0 0", "1 0 0 0 0"
+        answers = ["0 0 0 0 4", yes, yes, "end", no, "end", yes, "fault", "0 0 0 0 4", no, "end", yes, "1 1 0 f 0", "end"]
+        wanted = "demand 0 0\nblock 1 6 0 4 4\nblock 1 6 0 2 2\nblock 4 5 0 16 16\nfault at line 11\ndemand 0 0\nblock 1 6 0 4 4\nblock 4 5 0 16 16\n"
+        for by in ("c", "cpp"):
+            its = call(program, SAMPLE, EXAMPLES / "transfers.script", by, library.NO_LIMIT, *answers)
+            self.assertEqual(its, (library.OVERRUN, wanted))
 
     def test_a_run_in_cpp(self):
         """It is played once, and twice if it prints much more than its answers let expect."""
@@ -395,8 +428,8 @@ class Examples(Case):
         status, told = call(program, SAMPLE, EXAMPLES / "all_channels.script")
         self.assertEqual(status, 0, told)
         print(f"\n{told}", end="", flush=True)
-        one, lists = ([int(it) for it in re.findall(r"\d+", line)] for line in told.splitlines())
-        self.assertEqual((one[:2], lists[:2]), ([7000, 7000], [7000, 1500]))
+        one, lists, blocks = ([int(it) for it in re.findall(r"\d+", line)] for line in told.splitlines())
+        self.assertEqual((one[:2], lists[:2], blocks[:2]), ([7000, 7000], [7000, 1500], [7000, 1500]))
         self.assertGreater(lists[2], one[2])
 
 
@@ -677,6 +710,57 @@ class Python(Case):
         self.assertEqual(session.ahead(), [])
         with self.assertRaises(UsageFault):
             session.next_many([CYCLE])
+
+    def left(self, session):
+        """What is left of a block, and the words to write."""
+        its = session.wants()
+        return (its.mode, its.c, its.n, its.a, its.f, its.last_n, its.last_a, its.cycles, its.words) if its.kind == library.BLOCK else its.kind, session.block_words()
+
+    def test_blocks(self):
+        """What is left of a transfer is one want where its mode is allowed. A part of its answers leaves the rest, and those behind its end are not taken."""
+        script, yes, no = (EXAMPLES / "transfers.script").read_bytes(), Answer(1, 1), Answer(1, 0)
+        with library.Session(self.sample(), script) as session:
+            session.blocks(library.Q_STOP + library.Q_REPEAT + library.SCAN + library.WRITES)
+            session.next(DEMAND)
+            for left, answers, taken in (
+                (((library.Q_STOP, 1, 6, 0, 16, 6, 0, 4, 4), (0, 16, 32, 48)), [yes, yes], 2),
+                (((library.Q_STOP, 1, 6, 0, 16, 6, 0, 2, 2), (32, 48)), [no, yes], 1),
+                (((library.SCAN, 1, 5, 0, 0, 5, 15, 16, 16), ()), [yes] * 12, 12),
+                (((library.SCAN, 1, 5, 12, 0, 5, 15, 4, 4), ()), [no, no], 1),
+                (((library.Q_REPEAT, 1, 5, 0, 0, 5, 0, 9, 3), ()), [no, yes], 2),
+                (((library.Q_REPEAT, 1, 5, 0, 0, 5, 0, 7, 2), ()), [yes, no, yes, yes], 3),
+                ((library.CYCLE, ()), [], 0),
+            ):
+                self.assertEqual(self.left(session), left)
+                if answers:
+                    self.assertEqual(session.block(answers)[1], taken)
+            with self.assertRaises(UsageFault) as found:
+                session.block([yes])
+            self.assertEqual(str(found.exception), "block needs an open session that wants a block, and an answer")
+            self.assertEqual(session.next(yes).event_words, 15)
+            session.blocks(library.Q_STOP)
+            session.next(DEMAND)
+            self.assertEqual(self.left(session), (library.CYCLE, ()))
+            session.blocks(library.Q_STOP + library.WRITES)
+            did, taken = session.block([yes, Answer(wait=15), yes])
+            self.assertEqual((did.kind, taken, session.wants()), (library.STOPPED, 1, None))
+        for modes in (-1, 16):
+            with self.assertRaises(UsageFault):
+                session.blocks(modes)
+
+    def test_play_with_blocks(self):
+        """The event file and the answers are those of a run one by one, however much of a block is made at once."""
+        files = []
+        for most in (0, 1, 5, 100):
+            recorder, events = Recorder(self.branch()), self.room / f"{most}.events"
+            end = camac.play("@sample", EXAMPLES / "transfers.script", Blocks(recorder, most) if most else recorder, events)
+            files.append((end.line, end.contradictions, recorder.answer_lines(), events.read_bytes()))
+        self.assertEqual(files[1:], files[:1] * 3)
+        for answers in ([], [CYCLE] * 100, [None]):
+            branch = Blocks(self.branch(), 1)
+            branch.block = lambda its, answers=answers: answers
+            with self.assertRaises(TypeError):
+                camac.play("@sample", EXAMPLES / "transfers.script", branch)
 
     def test_what_a_session_tells(self):
         """Services, the last answer and what is held, on the answers of a service with a lock."""

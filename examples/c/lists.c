@@ -1,6 +1,6 @@
-/* lists.c: plays a script over a controller that makes lists of operations, as one on USB or Ethernet does: a transfer takes 100 microseconds,
- * whatever is in it, and an operation one more. The controller is simulated here, without hardware. First each operation is a transfer of its own, and
- * then what camac_ahead tells.
+/* lists.c: plays a script over a controller that makes lists of operations, and block transfers, as one on USB or Ethernet does: a transfer takes 100
+ * microseconds, whatever is in it, and an operation one more. The controller is simulated here, without hardware. First each operation is a transfer of
+ * its own, then what camac_ahead tells, and then blocks are transfers, too.
  *
  *     cc lists.c $(pkg-config --cflags --libs camac) -o lists && ./lists PLAN SCRIPT */
 #define _POSIX_C_SOURCE 200809L
@@ -12,6 +12,8 @@
 #define TRANSFER 100e-6
 #define OPERATION 1e-6
 #define DEMANDS 500
+#define ROOM 1024 /* the most answers of a transfer */
+#define READS (CAMAC_Q_STOP | CAMAC_Q_REPEAT | CAMAC_SCAN)
 
 static double now(void) {
     struct timespec its;
@@ -19,34 +21,43 @@ static double now(void) {
     return (double)its.tv_sec + 1e-9 * (double)its.tv_nsec;
 }
 
-/* Makes a list of operations in one transfer. Each look-at-me of the plan is up, and each word is 0x123. */
-static void transfer(const camac_want *list, camac_answer *answers, size_t count) {
+static size_t least(size_t one, size_t other) { return one < other ? one : other; }
+
+/* Makes a list of operations, or a block, in one transfer, and tells how many operations these were. Each look-at-me of the plan is up, each Q is 1, and
+ * each word is 0x123. */
+static size_t transfer(const camac_want *list, camac_answer *answers, size_t count) {
+    const int is_block = list[0].kind == CAMAC_BLOCK;
+    if (is_block) count = least(least(list[0].words, list[0].cycles), ROOM);
     const double end = now() + TRANSFER + OPERATION * (double)count;
     for (size_t i = 0; i < count; i++) {
         const camac_answer nothing = CAMAC_ANSWER;
         answers[i] = nothing;
         answers[i].x = answers[i].q = 1;
-        answers[i].gl = list[i].kind == CAMAC_DEMAND ? 0xffffff : 0;
+        answers[i].gl = !is_block && list[i].kind == CAMAC_DEMAND ? 0xffffff : 0;
         answers[i].word = 0x123;
     }
     while (now() < end) {}
+    return count;
 }
 
-/* Plays so many demands and their services, with lists of at most `room` operations. Prints how many operations a second are made. */
-static int play(camac_session *s, size_t room, const char *kind) {
+/* Plays so many demands and their services, with lists of at most `room` operations, and these blocks. Prints how many words a second are read. */
+static int play(camac_session *s, size_t room, uint32_t modes, const char *kind) {
+    static camac_answer answers[ROOM];
     camac_want list[CAMAC_AHEAD] = {CAMAC_WANT};
-    camac_answer answers[CAMAC_AHEAD];
     camac_progress progress[CAMAC_AHEAD] = {CAMAC_PROGRESS};
-    size_t count, taken, operations = 0, transfers = 0;
+    size_t count, taken, operations = 0, transfers = 0, words = 0;
+    int code = camac_blocks(s, modes);
     const double begin = now();
-    for (int demands = 0;; transfers++, operations += taken) {
+    for (int demands = 0; code == CAMAC_OK; transfers++, operations += taken) {
         count = camac_ahead(s, list, room);
         if (count && list[0].kind == CAMAC_DEMAND && demands++ == DEMANDS) break;
-        transfer(list, answers, count);
-        const int code = camac_next_many(s, answers, progress, count, &taken);
-        if (code != CAMAC_OK) return code;
+        count = transfer(list, answers, count);
+        if (list[0].kind == CAMAC_BLOCK) code = camac_block(s, answers, progress, count, &taken);
+        else code = camac_next_many(s, answers, progress, count, &taken);
+        for (size_t i = 0; i < (list[0].kind == CAMAC_BLOCK ? 1 : taken); i++) words += progress[i].event_words;
     }
-    printf("%s: %zu operations in %zu transfers, %.0f a second\n", kind, operations, transfers, (double)operations / (now() - begin));
+    if (code != CAMAC_OK) return code;
+    printf("%s: %zu operations in %zu transfers, %.0f words a second\n", kind, operations, transfers, (double)words / (now() - begin));
     return CAMAC_OK;
 }
 
@@ -70,9 +81,11 @@ int main(int count, char **words) {
     char *plan = read_file(words[1], &plan_size), *script = read_file(words[2], &script_size);
     int code = camac_open(&s, plan, plan_size, script, script_size, text, sizeof text, &size);
     if (code == CAMAC_REFUSED) fwrite(text, 1, size < sizeof text ? size : sizeof text, stdout);
-    if (code == CAMAC_OK) code = play(&s, 1, "one by one");
+    if (code == CAMAC_OK) code = play(&s, 1, 0, "one by one");
     if (code == CAMAC_OK) code = camac_rewind(&s);
-    if (code == CAMAC_OK) code = play(&s, CAMAC_AHEAD, "in lists");
+    if (code == CAMAC_OK) code = play(&s, CAMAC_AHEAD, 0, "in lists");
+    if (code == CAMAC_OK) code = camac_rewind(&s);
+    if (code == CAMAC_OK) code = play(&s, CAMAC_AHEAD, READS, "in lists and blocks");
     camac_close(&s);
     free(plan);
     free(script);

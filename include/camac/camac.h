@@ -74,10 +74,10 @@ enum camac_code {
                             the text says which */
     CAMAC_MISUSE = 2,    /* the session is none, or header and library do not fit; camac_open found it open; a struct or a pointer is wrong
                             (STRUCTS, TEXTS); what camac_response is told of services is wrong; camac_explain_at: a line or column of 0;
-                            camac_tell is asked nothing that it knows */
+                            camac_tell is asked nothing that it knows; camac_block: no block is wanted, or there is no answer */
     CAMAC_NO_MEMORY = 3, /* malloc or realloc refused */
     CAMAC_OVERRUN = 4,   /* a wait that the plan does not permit: the run stays where it was, until camac_abandon leaves the service */
-    CAMAC_RANGE = 5,     /* a word or gl above 0xffffff, a wait above 15, or the number of no service */
+    CAMAC_RANGE = 5,     /* a word or gl above 0xffffff, a wait above 15, the number of no service, or of no modes */
     CAMAC_SPENT = 6,     /* the run has used 4,294,967,295 answers */
     CAMAC_LONG = 7,      /* a plan, a script or an event file that is longer than it may be */
     CAMAC_BUSY = 8       /* the run pauses, after as many steps as camac_limit_steps allows at once: it wants no answer, but camac_go_on */
@@ -87,30 +87,45 @@ enum camac_code {
 typedef struct camac_session {
     uint32_t size, version; /* of this header */
     void *camac_private[6];
-    uint32_t camac_is_short, camac_serving;
+    uint32_t camac_ways, camac_serving;
 } camac_session;
 #define CAMAC_NONE {sizeof(camac_session), CAMAC_VERSION_NUMBER, {NULL, NULL, NULL, NULL, NULL, NULL}, 0, 0}
 
 enum camac_kind {
-    CAMAC_DEMAND = 1, /* a graded-L operation: the answer's gl counts */
-    CAMAC_CYCLE = 2,  /* a dataway cycle: x, q and wait count, and word where it reads; of some of the controller's also gl (docs/LIVE.md) */
-    CAMAC_LOCK = 3,   /* the lockout of auxiliary controllers in a crate: the wait counts */
-    CAMAC_STOPPED = 4 /* none: the run is stopped, by an overrun */
+    CAMAC_DEMAND = 1,  /* a graded-L operation: the answer's gl counts */
+    CAMAC_CYCLE = 2,   /* a dataway cycle: x, q and wait count, and word where it reads; of some of the controller's also gl (docs/LIVE.md) */
+    CAMAC_LOCK = 3,    /* the lockout of auxiliary controllers in a crate: the wait counts */
+    CAMAC_STOPPED = 4, /* none: the run is stopped, by an overrun */
+    CAMAC_BLOCK = 5    /* the cycles of a block transfer, where camac_blocks allows it: an answer for each, as of a cycle */
 };
 enum camac_data { CAMAC_NO_DATA = 0, CAMAC_READ = 1, CAMAC_WRITE = 2 };
+
+/* How a block goes on from cycle to cycle. It ends after `words` cycles with Q=1, and after `cycles` cycles at the latest. */
+enum camac_mode {
+    CAMAC_Q_STOP = 1,   /* at one address, up to the first Q=0 */
+    CAMAC_Q_REPEAT = 2, /* at one address, where Q=0 asks for the same again */
+    CAMAC_SCAN = 4,     /* after Q=1 the next sub-address; after A15 and after Q=0 A0 of the next station, up to the final address */
+    CAMAC_WRITES = 8    /* of camac_blocks: also blocks that write */
+};
 
 /* What the next answer is for. */
 typedef struct camac_want {
     uint32_t size;
     uint8_t kind;       /* enum camac_kind */
-    uint8_t c, n, a, f; /* of a cycle; of a lock c alone */
+    uint8_t c, n, a, f; /* of a cycle, and of the first one of a block; of a lock c alone */
     uint8_t data;       /* enum camac_data, of a cycle */
     uint8_t waits;      /* the longest wait that its answer may have: any longer one is an overrun. 15 of a demand */
-    uint8_t width;      /* of a cycle that reads: how many bits the plan declares, 24 for a controller's; else 0 */
-    uint32_t word;      /* to write, of a cycle that writes */
-    uint32_t spare[4];
+    uint8_t width;      /* of a cycle that reads: how many bits the plan declares, 24 for a controller's; else 0. Of a block its first cycle's */
+    uint32_t word;      /* to write, of a cycle that writes; camac_block_words has those of a block */
+    uint8_t mode;       /* of a block: CAMAC_Q_STOP, CAMAC_Q_REPEAT or CAMAC_SCAN */
+    uint8_t last_n;     /* its final address: of a scan the last one that it may come to, else n and a */
+    uint8_t last_a;
+    uint8_t unused;
+    uint32_t cycles;    /* the most cycles that it still makes */
+    uint32_t words;     /* the most of them with Q=1 */
+    uint32_t spare[1];
 } camac_want;
-#define CAMAC_WANT {sizeof(camac_want), 0, 0, 0, 0, 0, 0, 0, 0, 0, {0, 0, 0, 0}}
+#define CAMAC_WANT {sizeof(camac_want), 0, 0, 0, 0, 0, 0, 0, 0, 0, 0, 0, 0, 0, 0, 0, {0}}
 
 /* An answer. What an operation does not need is left 0. */
 typedef struct camac_answer {
@@ -237,6 +252,20 @@ size_t camac_ahead(const camac_session *s, camac_want *want, size_t room);
  * size of progress[0] counts for all, and is written into the others; each answer has its own. */
 CAMAC_CALL camac_next_many(camac_session *s, const camac_answer *answer, camac_progress *progress, size_t count, size_t *taken);
 
+/* Says which blocks your controller makes in one transfer, as a sum of enum camac_mode; at first none, and camac_rewind keeps it. Then camac_wants,
+ * camac_step and camac_ahead tell such a block as one want, CAMAC_BLOCK, which has what is left of it. CAMAC_RANGE: no such sum. */
+CAMAC_CALL camac_blocks(camac_session *s, uint32_t modes);
+
+/* Takes the answers of a block, one after the other: what the run is then, is what camac_next of each makes it. It stops after the one that ends the
+ * block, and at one that is not taken or makes the run pause, whose code it gives. *taken is how many were taken, and *progress tells of the last one
+ * that was looked at; of those before it nothing was to be released, and no event was left. If the controller made fewer, hand in those: the run wants
+ * the rest. CAMAC_MISUSE: no block is wanted. */
+CAMAC_CALL camac_block(camac_session *s, const camac_answer *answer, camac_progress *progress, size_t count, size_t *taken);
+
+/* Writes the words that the block still writes, as many as there is room for, and answers how many there are: that of the first cycle, and after each
+ * Q=1 the next one. 0 of a block that reads. */
+size_t camac_block_words(const camac_session *s, uint32_t *words, size_t room);
+
 /* camac_next, and where that is CAMAC_OK, camac_wants after it, at one crossing. At any other code *want is zeros. */
 CAMAC_CALL camac_step(camac_session *s, const camac_answer *answer, camac_progress *progress, camac_want *want);
 
@@ -300,10 +329,10 @@ enum camac_made {
                        next demand is wanted. If one of these fails, too, the run ends here. A lockout that failed is not held */
 };
 
-/* A branch, as camac_play asks it. The first word of each call is the last one of camac_play; `event` and `pause` may be NULL. */
+/* A branch, as camac_play asks it. The first word of each call is the last one of camac_play; `event`, `pause` and `block` may be NULL. */
 typedef struct camac_branch {
     uint32_t size, spare;
-    /* makes what is wanted, and fills in its answer, CAMAC_ANSWER before: enum camac_made */
+    /* makes what is wanted, and fills in its answer, CAMAC_ANSWER before: enum camac_made. Of a block that is its first cycle */
     int (*make)(void *user, const camac_want *want, camac_answer *answer);
     /* releases the lockout of a crate */
     void (*unlock)(void *user, uint32_t c);
@@ -311,8 +340,11 @@ typedef struct camac_branch {
     void (*event)(void *user, const camac_session *s, const camac_progress *its);
     /* the run pauses, as camac_limit_steps has it, and then goes on */
     void (*pause)(void *user);
+    /* makes a block, and fills in the answers of its first cycles, *count before, CAMAC_ANSWER each: at least one, and *count says how many */
+    int (*block)(void *user, const camac_session *s, const camac_want *want, camac_answer *answers, size_t *count);
 } camac_branch;
-#define CAMAC_BRANCH {sizeof(camac_branch), 0, NULL, NULL, NULL, NULL}
+#define CAMAC_BRANCH {sizeof(camac_branch), 0, NULL, NULL, NULL, NULL, NULL}
+#define CAMAC_BLOCK_ANSWERS 256u /* the most that camac_play has a branch give at once */
 
 /* Plays a run: has the branch make all that is wanted, in order. CAMAC_OK: it said CAMAC_END. Any other code is that of the call that failed; after
  * CAMAC_OVERRUN camac_next tells the crate and the wait once more, and after camac_back and camac_abandon the run can be played on. Of what an answer or

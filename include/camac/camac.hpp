@@ -128,7 +128,10 @@ class session {
         if (code != CAMAC_MISUSE) CAMAC_THROW(fault(code));
         camac_want want = CAMAC_WANT;
         const bool is_none = camac_wants(&its, &want) == CAMAC_MISUSE;
-        CAMAC_THROW(fault(code, call + (is_none ? " needs a session that was not moved from" : " needs answers that begin as CAMAC_ANSWER")));
+        const char *const need = is_none                                          ? "a session that was not moved from"
+                                 : call == "block" && want.kind != CAMAC_BLOCK ? "a block that is wanted"
+                                                                                : "answers that begin as CAMAC_ANSWER";
+        CAMAC_THROW(fault(code, call + " needs " + need));
     }
 
     // Fails at a code that is not CAMAC_OK.
@@ -225,6 +228,19 @@ public:
         return did;
     }
 
+    // Says which blocks are made in one transfer, a sum of enum camac_mode: then such a block is one want, CAMAC_BLOCK.
+    void blocks(std::uint32_t modes) { test(camac_blocks(&its, modes), "blocks"); }
+
+    // The words that the block which is wanted still writes; none of one that reads.
+    [[nodiscard]] std::vector<std::uint32_t> block_words() const { return counted(camac_block_words); }
+
+    // Takes the answers of a block, up to the one that ends it, and tells what the last of them did. `taken` is how many were taken.
+    camac_progress block(const std::vector<camac_answer> &answers, std::size_t &taken) {
+        camac_progress progress = CAMAC_PROGRESS;
+        this->taken(camac_block(&its, answers.data(), &progress, answers.size(), &taken), progress, "block");
+        return progress;
+    }
+
     // Takes an answer as `next` does, and tells what the next one is for, at one crossing.
     camac_progress step(const camac_answer &answer, camac_want &want) {
         camac_progress progress = CAMAC_PROGRESS;
@@ -306,6 +322,8 @@ public:
     // Makes a graded-L operation; nothing where no more demands are served.
     virtual std::optional<camac_answer> demand() = 0;
     virtual camac_answer cycle(const camac_want &want) = 0;
+    // Makes the first cycles of a block, where `session::blocks` allows it: at least one. As it is here, one alone.
+    virtual std::vector<camac_answer> block(const camac_want &want, const session &) { return {cycle(want)}; }
     // Takes the lockout of a crate. Where it throws, the crate is not locked.
     virtual camac_answer lock(unsigned c) = 0;
     virtual void unlock(unsigned c) noexcept = 0;
@@ -356,8 +374,18 @@ class player {
     template <class, class Call> bool leaves(Call call) { return call(), false; }
 #endif
 
+    bool answer_block(const camac_want &want) {
+        std::vector<camac_answer> made;
+        camac_progress did = CAMAC_PROGRESS;
+        std::size_t taken = 0;
+        if (leaves<std::exception>([&] { made = its.block(want, run); })) return true;
+        if (!leaves<overrun>([&] { did = run.block(made, taken); })) settle(did);
+        return true;
+    }
+
     // Has an operation made, and its answer taken. False where no more demands are served.
     bool answer(const camac_want &want) {
+        if (want.kind == CAMAC_BLOCK) return answer_block(want);
         std::optional<camac_answer> made;
         camac_progress did = CAMAC_PROGRESS;
         if (leaves<std::exception>([&] { made = make(want); })) return true;

@@ -9,7 +9,7 @@ import os
 import stat
 from ctypes import byref, c_size_t, c_uint32
 from io import FileIO
-from typing import TYPE_CHECKING, Any, Callable, Iterable, Iterator, List, Mapping, NamedTuple, Optional, Tuple, Union
+from typing import TYPE_CHECKING, Any, Callable, Iterable, Iterator, List, Mapping, NamedTuple, Optional, Sequence, Tuple, Union
 
 from camac import native
 from camac.contradictions import seen_of
@@ -18,6 +18,7 @@ from camac.events import FORMS, HEADER, NEW_FILE
 from camac.signals import Signals
 from camac.values import Ending, RunEnd
 from camac.native import BUSY, EVENT_WORDS, LONG, MISUSE, NO_MEMORY, OK, OVERRUN, REFUSED, SPENT, WRITE, Progress, Want
+from camac.native import BLOCK as BLOCK, Q_REPEAT as Q_REPEAT, Q_STOP as Q_STOP, SCAN as SCAN, WRITES as WRITES
 from camac.native import CYCLE as CYCLE, DEMAND as DEMAND, LOCK as LOCK, NO_DATA as NO_DATA, NO_LIMIT as NO_LIMIT, READ as READ, STOPPED as STOPPED
 from camac.native import is_there as is_there
 from camac.output import holds_bytes
@@ -40,6 +41,8 @@ MISUSED = "{} needs each service of the script once at most, as adc=200, with a 
 CLOSED = "{} needs an open session: this one is closed"
 PAUSED = "{} needs a run that does not pause: go_on comes first"
 LIMIT_RANGE = "limit_steps needs a number from 0 to 4294967295"
+NO_BLOCK = "block needs an open session that wants a block, and an answer"
+MODES_RANGE = "blocks needs a sum of Q_STOP, Q_REPEAT, SCAN and WRITES"
 # A session makes no more steps at once. They take a tenth of a second at worst; between them other threads run, and signals come.
 STEPS = 5_000
 
@@ -66,6 +69,22 @@ class Place(NamedTuple):
 
     service: int
     line: int
+
+
+class Block(NamedTuple):
+    """A block transfer that `branch.block` makes at once: its mode, Q_STOP, Q_REPEAT or SCAN; its first cycle; its final station and sub-address; the
+    most cycles, and the most of them with Q = 1; and the words to write, None if it reads."""
+
+    mode: int
+    c: int
+    n: int
+    a: int
+    f: int
+    last_n: int
+    last_a: int
+    cycles: int
+    words: int
+    data: Optional[Tuple[int, ...]]
 
 
 OnFault = Callable[[Exception, Optional[Place]], bool]
@@ -210,6 +229,15 @@ def run(plan: Text, script: Text, answers: Text) -> Tuple[Verdict, bytes]:
     return Verdict(code == OK, listing.decode("utf-8", "replace")), file
 
 
+def _answers(given: Sequence[Answer]) -> Any:
+    """Answers as C has them, and one more."""
+    its = (native.AnswerStruct * (len(given) + 1))()
+    for i, (x, q, word, wait, gl) in enumerate(given):
+        its[i].size = native.ANSWER_SIZE
+        native.write_answer(its, i * native.ANSWER_SIZE + native.BEHIND_SIZE, word, gl, x, q, wait)
+    return its
+
+
 class Session:
     """A run of an accepted script, an answer at a time. It is closed by `close`, at the end of a `with`, or when nothing refers to it.
 
@@ -263,10 +291,7 @@ class Session:
         """`next` of one answer after the other, up to one that leaves an event, ends the run by an overrun, makes it pause or is not taken. Returns what each did, the
         overrun too. Raises what `next` raises if the first is not taken."""
         given, at, taken = list(answers), 0, c_size_t()
-        its, did = (native.AnswerStruct * (len(given) + 1))(), (Progress * (len(given) + 1))()
-        for i, (x, q, word, wait, gl) in enumerate(given):
-            its[i].size = native.ANSWER_SIZE
-            native.write_answer(its, i * native.ANSWER_SIZE + native.BEHIND_SIZE, word, gl, x, q, wait)
+        its, did = _answers(given), (Progress * (len(given) + 1))()
         while True:
             self._lines = b""
             did[at].size = ctypes.sizeof(Progress)
@@ -294,6 +319,29 @@ class Session:
         if code == OK:
             return self._progress, self._want
         return self._progress, self.wants() if self._heed("step", code) == OK else None
+
+    def blocks(self, modes: int) -> None:
+        """Says which block transfers are made at once: a sum of Q_STOP, Q_REPEAT, SCAN, and WRITES for those that write, too. Then what is left of such a
+        transfer is one want, of kind BLOCK. Raises UsageFault if it is no such sum."""
+        if not 0 <= modes <= Q_STOP + Q_REPEAT + SCAN + WRITES:
+            raise UsageFault(MODES_RANGE, 2)
+        _test("blocks", self._calls.camac_blocks(self._at, modes))
+
+    def block_words(self) -> Tuple[int, ...]:
+        """The words that the block which is wanted still writes; none of one that reads."""
+        count = self._calls.camac_block_words(self._at, self._words, EVENT_WORDS)
+        return tuple(self._words[:count])
+
+    def block(self, answers: Iterable[Answer]) -> Tuple[Progress, int]:
+        """Takes the answers of the block that is wanted, one after the other, up to the one that ends it or is an overrun. Returns what the last of these
+        did, and how many were taken. Raises what `next` raises."""
+        given, taken = list(answers), c_size_t()
+        self._lines = b""
+        code = self._calls.camac_block(self._at, _answers(given), self._to_progress, len(given), byref(taken))
+        if code == MISUSE:
+            raise UsageFault(NO_BLOCK, 2)
+        self._heed("block", code)
+        return self._progress, taken.value
 
     def _heed(self, call: str, code: int) -> int:
         """Goes through the pauses of an answer. Returns the code behind them. Raises the fault of an answer that was not taken."""
@@ -425,6 +473,9 @@ def play(
     must not hold bytes; without it none is written. Each event is there before the next operation is made. `record` is that of
     `camac.drive`. `program` and `timeout` are taken as `camac.drive` takes them; here the program has no part in the run, but lists the plan's widths.
 
+    If the branch has a number `blocks`, a sum of Q_STOP, Q_REPEAT, SCAN and WRITES, its method `block` makes such block transfers: it takes a `Block`, and
+    returns the answers of its first cycles, at least one.
+
     If an operation raises an exception, or its wait is an Overrun, `on_fault` is called with that and the place of the operation (None at a demand). If
     it returns True, `branch.cycle` sets inhibit and demand output back, the service is left without an event, its lockouts are released, and the run
     goes on at a demand. Else the run ends, as without `on_fault`.
@@ -448,6 +499,22 @@ def play(
         return signals.heed(lambda: game.seen.told(end, plan, program or IN_PROCESS))
 
 
+class _Made(NamedTuple):
+    """A block that the branch made, with its answers."""
+
+    block: Block
+    answers: Tuple[Answer, ...]
+
+
+def commands_of(block: Block, answers: Iterable[Answer]) -> Iterator[Tuple[int, int, int, int]]:
+    """Where the cycles of a block went, by their answers, with its function."""
+    n, a = block.n, block.a
+    for it in answers:
+        yield block.c, n, a, block.f
+        if block.mode == SCAN:
+            n, a = (n, a + 1) if it.q and a < 15 else (n + 1, 0)
+
+
 class _Game:
     """A run in progress: the session, the branch, the crates whose lockout is held, and what writes into the event file."""
 
@@ -455,6 +522,10 @@ class _Game:
         self.session, self.branch, self.write, self.lockouts, self.on_fault = session, lockouts.branch, write, lockouts, on_fault
         self.seen = seen_of(lockouts.branch)
         self.events = 0
+        # A branch that hands all on by its names may seem to have any.
+        blocks = getattr(self.branch, "blocks", 0)
+        session.blocks(blocks if isinstance(blocks, int) else 0)
+        self.make_block: Callable[[Block], Iterable[Answer]] = getattr(self.branch, "block", lambda _: ())
 
     def serve(self) -> RunEnd:
         """Has the branch make all that is wanted, and returns the end of the run."""
@@ -470,7 +541,7 @@ class _Game:
             if answer is None:
                 return RunEnd(Ending.ENDED, f"ended events {self.events}", self.events)
             try:
-                progress, want = self.session.step(answer)
+                progress, want = self.session.step(answer) if isinstance(answer, Answer) else self.take_block(answer)
             except OverflowError:
                 return RunEnd(Ending.REFUSED, SPENT_LINE)
             if progress.event or progress.first_unlocked:
@@ -481,10 +552,17 @@ class _Game:
         line = f"overrun {progress.c} wait {progress.wait} events {self.events}"
         return RunEnd(Ending.OVERRUN, line, self.events, progress.c, progress.wait)
 
-    def make(self, want: Want) -> Optional[Answer]:
+    def make(self, want: Want) -> Union[Answer, "_Made", None]:
         """Has the branch make an operation. Only a demand may be without an answer."""
         kind, c, n, a, f, data = native.read_want(want, native.BEHIND_SIZE)
         answer: Optional[Answer]
+        if kind == BLOCK:
+            words = self.session.block_words() if data == WRITE else None
+            block = Block(want.mode, c, n, a, f, want.last_n, want.last_a, want.cycles, want.words, words)
+            answers = tuple(self.make_block(block))
+            if not answers or not all(isinstance(it, Answer) for it in answers):
+                raise TypeError(f"the branch has to answer a block with one Answer or more, not {answers!r}")
+            return _Made(block, answers)
         if kind == CYCLE:
             answer = self.branch.cycle(c, n, a, f, want.word if data == WRITE else None)
         elif kind == DEMAND:
@@ -497,6 +575,16 @@ class _Game:
         if answer is None and kind == DEMAND:
             return answer
         raise TypeError(f"the branch has to answer an operation with an Answer, not {answer!r}")
+
+    def take_block(self, made: "_Made") -> Tuple[Progress, Optional[Want]]:
+        """Takes the answers of a block, and returns what the last one did, and what is wanted then."""
+        progress, taken = self.session.block(made.answers)
+        is_over = progress.kind == native.STOPPED
+        if taken + is_over < len(made.answers):
+            raise TypeError(f"the branch gave {len(made.answers)} answers to a block that ended with {taken + is_over}")
+        for command, answer in zip(commands_of(made.block, made.answers), made.answers):
+            self.seen.answer(command, answer)
+        return progress, None if is_over else self.session.wants()
 
     def is_left(self, error: Exception) -> bool:
         """Leaves the service in which an operation failed, if `on_fault` says so: the crates are set back, and all lockouts released."""

@@ -13,7 +13,8 @@ NAME = "libcamac.so.0"
 # The version whose structs are here. A library fits whose first two numbers are the same.
 VERSION = 200
 OK, REFUSED, MISUSE, NO_MEMORY, OVERRUN, RANGE, SPENT, LONG, BUSY = range(9)
-DEMAND, CYCLE, LOCK, STOPPED = range(1, 5)
+DEMAND, CYCLE, LOCK, STOPPED, BLOCK = range(1, 6)
+Q_STOP, Q_REPEAT, SCAN, WRITES = 1, 2, 4, 8
 NO_DATA, READ, WRITE = range(3)
 EVENT_WORDS = 4096
 # What `camac_tell` is asked, by the words of the program.
@@ -47,9 +48,16 @@ class SessionStruct(_Sized):
 
 class Want(_Sized):
     """What the next answer is for: `kind`, the longest wait that its answer may have, `waits`, and of a CYCLE `c`, `n`, `a`, `f`, `data`, the
-    `width` of what it reads and the `word` to write, of a LOCK `c`."""
+    `width` of what it reads and the `word` to write, of a LOCK `c`. A BLOCK has those of its first cycle, its `mode`, its final station and sub-address,
+    `last_n` and `last_a`, the most `cycles`, and the most `words` with Q = 1."""
 
-    _fields_ = [("size", c_uint32), *_fields(c_uint8, "kind c n a f data waits width"), ("word", c_uint32), ("spare", c_uint32 * 4)]
+    _fields_ = [
+        ("size", c_uint32),
+        *_fields(c_uint8, "kind c n a f data waits width"),
+        ("word", c_uint32),
+        *_fields(c_uint8, "mode last_n last_a unused"),
+        *_fields(c_uint32, "cycles words spare"),
+    ]
 
 
 class AnswerStruct(_Sized):
@@ -121,11 +129,12 @@ _OF_TEXTS: Dict[str, List[Any]] = {
 _OF_SESSIONS: Dict[str, List[Any]] = {
     **{name: [_SESSION] for name in ("answers_left", "services", "rewind", "close")},
     **{name: [_SESSION, *_BUFFER] for name in ("item", "record")},
-    **{name: [_SESSION, POINTER(c_uint32), c_size_t] for name in ("words", "held")},
+    **{name: [_SESSION, POINTER(c_uint32), c_size_t] for name in ("words", "held", "block_words")},
     "wants": [_SESSION, POINTER(Want)],
     **{name: [_SESSION, POINTER(Want), c_size_t] for name in ("ahead", "back")},
     "next": [_SESSION, POINTER(AnswerStruct), POINTER(Progress)],
-    "next_many": [_SESSION, POINTER(AnswerStruct), POINTER(Progress), c_size_t, POINTER(c_size_t)],
+    **{name: [_SESSION, POINTER(AnswerStruct), POINTER(Progress), c_size_t, POINTER(c_size_t)] for name in ("next_many", "block")},
+    "blocks": [_SESSION, c_uint32],
     "step": [_SESSION, POINTER(AnswerStruct), POINTER(Progress), POINTER(Want)],
     "limit_steps": [_SESSION, c_uint32],
     "go_on": [_SESSION, POINTER(Progress)],
@@ -136,7 +145,7 @@ _OF_SESSIONS: Dict[str, List[Any]] = {
 }
 # What is called at each answer. Their arguments are made once, as C has them, and ctypes takes half of the time where it need not look at them.
 _OFTEN = frozenset(("wants", "next", "step", "item", "record"))
-_RESULTS = {"ahead": c_size_t, "back": c_size_t, "words": c_size_t, "held": c_size_t, "file_header": c_size_t, "answers_left": c_uint32, "services": c_size_t, "close": None}
+_RESULTS = {"ahead": c_size_t, "back": c_size_t, "words": c_size_t, "held": c_size_t, "block_words": c_size_t, "file_header": c_size_t, "answers_left": c_uint32, "services": c_size_t, "close": None}
 
 
 def find_library() -> str:

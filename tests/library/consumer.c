@@ -1,12 +1,13 @@
 /* consumer.c: what a data acquisition program makes of a run: the listing and the event file of `camac run`. The run is begun again before it is
  * played. Now and then a service is abandoned: what was written since its demand is taken back, and the rest is that of a run without it. Where it
  * stands, each time something is wanted, is a line of the script that can want it. A second session takes the same answers in lists, as long as what
- * it tells ahead, and does the same. So does camac_run with all of them.
+ * it tells ahead, a third one also in blocks, and both do the same. So does camac_run with all of them.
  *
  *     consumer FOLDER COUNT     of FOLDER/K.plan and FOLDER/K.script, K below COUNT, it makes K.answers at random, K.listing and K.events, and prints
- *                               how many lists there were, and how many answers in them */
+ *                               how many lists there were, how many answers in them, and how many lists with blocks */
 #define _POSIX_C_SOURCE 200809L
 #include "common.h"
+#include <stddef.h>
 #include <unistd.h>
 
 #define ANSWERS 150
@@ -116,8 +117,129 @@ static void abandon(camac_session *s, camac_want *want, uint32_t room) {
     if (want->kind != CAMAC_DEMAND) fail("no demand is wanted");
 }
 
-/* Goes on while both runs pause, and puts what it tells. */
-static int go_on(camac_session *s, camac_session *lists, int code, camac_want *want, FILE *listing, FILE *events, uint32_t *count, uint32_t service) {
+static void take_back(FILE *file, long at) {
+    if (fflush(file) || ftruncate(fileno(file), at) || fseek(file, at, SEEK_SET)) fail("a file cannot be written");
+}
+
+/* The block that a session is in, as far as it came: by its want, and by the Q of its cycles. */
+typedef struct block {
+    camac_want left;
+    uint32_t words[CAMAC_EVENT_WORDS], made;
+    int is_over;
+} block;
+
+/* Begins a block; one that was not over goes on. */
+static void begin_block(block *its, const camac_session *s, const camac_want *want) {
+    if (want->mode == CAMAC_SCAN) its->left.width = want->width;
+    if (!its->is_over && memcmp(&its->left, want, sizeof *want)) fail("another block is wanted than the rest of one");
+    its->left = *want;
+    its->is_over = 0;
+    its->made = 0;
+    const size_t count = camac_block_words(s, its->words, CAMAC_EVENT_WORDS);
+    if (want->data == CAMAC_WRITE ? count < want->words : count) fail("a block has %zu words to write", count);
+}
+
+/* The one by one wanted cycle is the next one of the block. */
+static void is_next(const block *its, const camac_want *want) {
+    camac_want next = no_want;
+    memcpy(&next.kind, &its->left.kind, offsetof(camac_want, word) - offsetof(camac_want, kind));
+    next.kind = CAMAC_CYCLE;
+    if (next.data == CAMAC_WRITE) next.word = its->words[its->made];
+    if (its->left.mode == CAMAC_SCAN) next.width = want->width;
+    if (memcmp(&next, want, sizeof next)) fail("a block has another cycle");
+}
+
+/* What is left of a block after a cycle with this Q. */
+static void go_further(block *its, int q) {
+    camac_want *const left = &its->left;
+    left->cycles--;
+    if (q || left->mode == CAMAC_Q_STOP) left->words--;
+    if (q) its->made++;
+    if (left->data == CAMAC_WRITE) left->word = its->words[its->made];
+    if (left->mode == CAMAC_SCAN) {
+        const int is_at_last = left->n == left->last_n && left->a == left->last_a, leaves = !q || left->a == 15;
+        if (leaves) left->n++;
+        left->a = (uint8_t)(leaves ? 0 : left->a + 1);
+        left->cycles = (uint32_t)(16 * (left->last_n - left->n) + left->last_a - left->a + 1);
+        its->is_over = is_at_last || left->n > left->last_n || (left->n == left->last_n && left->a > left->last_a) || !left->words;
+    } else its->is_over = !left->cycles || !left->words || (left->mode == CAMAC_Q_STOP && !q);
+}
+
+/* Sessions that take their answers in lists, what was told ahead, and of the list so far what `one`, which takes them one by one, did. The second one
+ * takes blocks, too, of which it now and then hands in a part. */
+#define WAYS 2
+static struct way {
+    camac_session s;
+    camac_want wants[CAMAC_AHEAD];
+    camac_answer answers[ANSWERS + 2];
+    camac_progress did[ANSWERS];
+    block block;
+    size_t count, used;
+    unsigned long lists, all;
+} ways[WAYS];
+
+static int is_block(const struct way *its) { return its->wants[0].kind == CAMAC_BLOCK; }
+
+/* An answer for the list: what is wanted is what was told ahead. */
+static void gather(struct way *its, const camac_want *want, const camac_answer *answer, uint32_t *seed) {
+    if (!its->used) {
+        const uint32_t room = 1 + chance(seed, CAMAC_AHEAD);
+        its->wants[0] = *want;
+        its->count = camac_ahead(&its->s, its->wants, room);
+        if (!its->count || its->count > room) fail("%zu operations are ahead", its->count);
+        if (is_block(its)) begin_block(&its->block, &its->s, its->wants), its->count = 1 + chance(seed, 2 * its->wants[0].cycles);
+        else if (!its->block.is_over) fail("a block is left");
+    }
+    if (is_block(its)) is_next(&its->block, want);
+    else if (memcmp(&its->wants[its->used], want, sizeof *want)) fail("something else is ahead");
+    its->answers[its->used] = *answer;
+}
+
+static void same(struct way *its, int (*call)(const camac_session *, void *, size_t, size_t *), const camac_session *one) {
+    static char bytes[1 << 15], others[1 << 15];
+    size_t size, other;
+    EXPECT(CAMAC_OK, call(one, bytes, sizeof bytes, &size));
+    EXPECT(CAMAC_OK, call(&its->s, others, sizeof others, &other));
+    if (size != other || memcmp(bytes, others, size)) fail("a list tells something else");
+}
+
+/* Hands in the answers of a block, and one more where it is over. */
+static size_t hand_in_block(struct way *its, int code) {
+    camac_progress did = CAMAC_PROGRESS;
+    size_t taken;
+    const size_t more = its->block.is_over || code != CAMAC_OK;
+    its->answers[its->used] = its->answers[0];
+    EXPECT(code, camac_block(&its->s, its->answers, &did, its->used + more, &taken));
+    if (memcmp(&did, &its->did[its->used - 1], sizeof did)) fail("a block does something else");
+    return taken;
+}
+
+/* Hands the list in, whose last answer got this code. */
+static void hand_in(struct way *its, int code, const camac_session *one) {
+    static camac_progress did[ANSWERS];
+    size_t taken;
+    did[0] = no_progress;
+    if (is_block(its)) taken = hand_in_block(its, code);
+    else {
+        EXPECT(code, camac_next_many(&its->s, its->answers, did, its->used, &taken));
+        if (memcmp(did, its->did, its->used * sizeof *did)) fail("a list does something else");
+    }
+    if (taken != its->used - (code == CAMAC_OVERRUN)) fail("%zu of %zu answers were taken", taken, its->used);
+    same(its, item, one);
+    same(its, camac_record, one);
+    its->lists++, its->all += its->used;
+    its->used = 0;
+}
+
+/* What `one` did with its last answer, which got this code. */
+static void add(struct way *its, int code, const camac_progress *did, const camac_session *one) {
+    its->did[its->used++] = *did;
+    if (is_block(its) && code != CAMAC_OVERRUN) go_further(&its->block, did->q);
+    if (its->used == its->count || code != CAMAC_OK || (is_block(its) && its->block.is_over)) hand_in(its, code, one);
+}
+
+/* Goes on while all runs pause, and puts what it tells. */
+static int go_on(camac_session *s, int code, camac_want *want, FILE *listing, FILE *events, uint32_t *count, uint32_t service) {
     const camac_answer answer = CAMAC_ANSWER;
     camac_progress did = CAMAC_PROGRESS;
     if (code != CAMAC_BUSY) return code;
@@ -129,54 +251,9 @@ static int go_on(camac_session *s, camac_session *lists, int code, camac_want *w
         put(listing, item, s);
         put(events, camac_record, s);
         if (did.event) *count = did.event;
-        EXPECT(code, camac_go_on(lists, &did));
+        for (int w = 0; w < WAYS; w++) EXPECT(code, camac_go_on(&ways[w].s, &did));
     }
     return code == CAMAC_OK ? camac_wants(s, want) : code;
-}
-
-static void take_back(FILE *file, long at) {
-    if (fflush(file) || ftruncate(fileno(file), at) || fseek(file, at, SEEK_SET)) fail("a file cannot be written");
-}
-
-/* A session that takes its answers in lists, what was told ahead, and of the list so far what `one`, which takes them one by one, did. */
-static struct {
-    camac_session s;
-    camac_want wants[CAMAC_AHEAD];
-    camac_answer answers[CAMAC_AHEAD];
-    camac_progress did[CAMAC_AHEAD];
-    size_t count, used;
-    unsigned long lists, all;
-} list;
-
-/* An answer for the list: what is wanted is what was told ahead. */
-static void gather(const camac_want *want, const camac_answer *answer, uint32_t room) {
-    if (!list.used) {
-        list.wants[0] = *want;
-        list.count = camac_ahead(&list.s, list.wants, room);
-        if (!list.count || list.count > room) fail("%zu operations are ahead", list.count);
-    }
-    if (memcmp(&list.wants[list.used], want, sizeof *want)) fail("something else is ahead");
-    list.answers[list.used] = *answer;
-}
-
-static void same(int (*call)(const camac_session *, void *, size_t, size_t *), const camac_session *one) {
-    static char bytes[1 << 15], others[1 << 15];
-    size_t size, other;
-    EXPECT(CAMAC_OK, call(one, bytes, sizeof bytes, &size));
-    EXPECT(CAMAC_OK, call(&list.s, others, sizeof others, &other));
-    if (size != other || memcmp(bytes, others, size)) fail("a list tells something else");
-}
-
-/* Hands the list in, whose last answer got this code. */
-static void hand_in(int code, const camac_session *one) {
-    camac_progress did[CAMAC_AHEAD] = {CAMAC_PROGRESS};
-    size_t taken;
-    EXPECT(code, camac_next_many(&list.s, list.answers, did, list.used, &taken));
-    if (taken != list.used - (code == CAMAC_OVERRUN) || memcmp(did, list.did, list.used * sizeof *did)) fail("a list does something else");
-    same(item, one);
-    same(camac_record, one);
-    list.lists++, list.all += list.used;
-    list.used = 0;
 }
 
 /* Plays up to an overrun, or to the end of the answers. */
@@ -199,11 +276,10 @@ static void play(camac_session *s, const char *folder, long k, const text *scrip
         if (want.kind == CAMAC_DEMAND) answer.gl = any_pattern(s, &seed);
         fprintf(answers, "%d %d %06x %x %06x\n", answer.x, answer.q, (unsigned)answer.word, answer.wait, (unsigned)answer.gl);
         const camac_want before = want;
-        gather(&want, &answer, 1 + chance(&seed, CAMAC_AHEAD));
+        for (int w = 0; w < WAYS; w++) gather(&ways[w], &want, &answer, &seed);
         code = camac_step(s, &answer, &did, &want);
         if ((code == CAMAC_OVERRUN) != (answer.wait > before.waits)) fail("a wait of %u gives %d, where %u is the longest", answer.wait, code, before.waits);
-        list.did[list.used++] = did;
-        if (list.used == list.count || code != CAMAC_OK) hand_in(code, s);
+        for (int w = 0; w < WAYS; w++) add(&ways[w], code, &did, s);
         put(listing, item, s);
         put(events, camac_record, s);
         if (code == CAMAC_OK || code == CAMAC_BUSY) {
@@ -214,15 +290,19 @@ static void play(camac_session *s, const char *folder, long k, const text *scrip
         if (did.kind == CAMAC_DEMAND) service = did.service, memcpy(was, now, sizeof was);
         is_told(s, &did, service);
         if (did.kind != (code == CAMAC_OVERRUN ? CAMAC_STOPPED : before.kind)) fail("an answer was for kind %u, not %u", did.kind, before.kind);
-        code = go_on(s, &list.s, code, &want, listing, events, &count, service);
+        code = go_on(s, code, &want, listing, events, &count, service);
         if (code == CAMAC_OVERRUN ? chance(&seed, 3) : code != CAMAC_OK || want.kind == CAMAC_DEMAND || chance(&seed, 20)) continue;
-        if (list.used) hand_in(CAMAC_OK, s);
-        EXPECT(CAMAC_OK, camac_abandon(&list.s, NULL, 0, NULL));
+        for (int w = 0; w < WAYS; w++) {
+            if (ways[w].used) hand_in(&ways[w], CAMAC_OK, s);
+            EXPECT(CAMAC_OK, camac_abandon(&ways[w].s, NULL, 0, NULL));
+            ways[w].block.is_over = 1;
+        }
         abandon(s, &want, chance(&seed, CAMAC_CRATES + 1));
         code = CAMAC_OK;
         for (int n = 0; n < 3; n++) take_back(files[n], at[n]);
     }
-    if (list.used) hand_in(CAMAC_OK, s);
+    for (int w = 0; w < WAYS; w++)
+        if (ways[w].used) hand_in(&ways[w], CAMAC_OK, s);
     if (code == CAMAC_OVERRUN) fprintf(listing, "overrun %d wait %d events %u\n", did.c, did.wait, (unsigned)count);
     else fprintf(listing, "%s events %u\n", want.kind == CAMAC_DEMAND ? "ended" : "short", (unsigned)count);
     if (fclose(answers) || fclose(listing) || fclose(events)) fail("a file cannot be written");
@@ -247,9 +327,13 @@ int main(int words_count, char **words) {
         uint32_t seed = (uint32_t)k;
         const text plan = of_file(words[1], k, "plan"), script = of_file(words[1], k, "script");
         const camac_session none = CAMAC_NONE;
-        list.s = none;
         open_session(&s, &plan, &script);
-        open_session(&list.s, &plan, &script);
+        for (int w = 0; w < WAYS; w++) {
+            ways[w].s = none;
+            open_session(&ways[w].s, &plan, &script);
+            EXPECT(CAMAC_OK, camac_blocks(&ways[w].s, w ? chance(&seed, 16) : 0));
+            ways[w].block.is_over = 1;
+        }
         for (camac_want want = CAMAC_WANT; chance(&seed, 30) && camac_wants(&s, &want) == CAMAC_OK;) {
             camac_progress did = CAMAC_PROGRESS;
             camac_answer answer = any_answer(&seed);
@@ -259,13 +343,13 @@ int main(int words_count, char **words) {
         EXPECT(CAMAC_OK, camac_rewind(&s));
         const uint32_t most = chance(&seed, 2) ? CAMAC_NO_LIMIT : chance(&seed, 20);
         EXPECT(CAMAC_OK, camac_limit_steps(&s, most));
-        EXPECT(CAMAC_OK, camac_limit_steps(&list.s, most));
+        for (int w = 0; w < WAYS; w++) EXPECT(CAMAC_OK, camac_limit_steps(&ways[w].s, most));
         play(&s, words[1], k, &script);
         run(words[1], k, &plan, &script);
         camac_close(&s);
-        camac_close(&list.s);
+        for (int w = 0; w < WAYS; w++) camac_close(&ways[w].s);
         free(plan.bytes), free(script.bytes);
     }
-    printf("%lu %lu\n", list.lists, list.all);
+    printf("%lu %lu %lu\n", ways[0].lists, ways[0].all, ways[1].lists);
     return 0;
 }

@@ -97,6 +97,22 @@ static void lists(camac_session *s) {
     EXPECT(CAMAC_OK, camac_rewind(s));
 }
 
+/* Blocks: which are no modes, and what is no block. */
+static void blocks(camac_session *s) {
+    camac_progress did;
+    size_t taken = 9;
+    spoil(&did, sizeof did);
+    EXPECT(CAMAC_MISUSE, camac_blocks(NULL, CAMAC_SCAN));
+    EXPECT(CAMAC_RANGE, camac_blocks(s, 2 * CAMAC_WRITES));
+    EXPECT(CAMAC_OK, camac_blocks(s, CAMAC_Q_STOP | CAMAC_Q_REPEAT | CAMAC_SCAN | CAMAC_WRITES));
+    EXPECT(CAMAC_MISUSE, camac_block(s, &no_answer, &did, 1, &taken));
+    expect_zeros(&did, &no_progress, sizeof did, __LINE__);
+    EXPECT(CAMAC_MISUSE, camac_block(s, &no_answer, NULL, 1, &taken));
+    EXPECT(CAMAC_MISUSE, camac_block(NULL, &no_answer, &did, 1, NULL));
+    if (taken || camac_block_words(s, NULL, 0) || camac_block_words(NULL, NULL, 0)) fail("a demand is a block");
+    EXPECT(CAMAC_OK, camac_blocks(s, 0));
+}
+
 /* The services as the verdict tells them. */
 static void services(const camac_session *s, const char *verdict) {
     camac_service_info info;
@@ -186,6 +202,7 @@ int main(int count, char **words) {
     EXPECT(CAMAC_OK, camac_open(&s, plan.bytes, plan.size, script.bytes, script.size, verdict, sizeof verdict - 1, &size));
     handed_in(&s);
     lists(&s);
+    blocks(&s);
     services(&s, verdict);
     stepped(&s);
     camac_close(&s);

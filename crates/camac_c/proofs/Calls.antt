@@ -1,6 +1,6 @@
 -- What C is told of a run, from what passes between a call and the run.
 use Rattle.std.proofs.Common.{◌≡◌, ℕ, List, [], length, refl, ap, ◌∙◌, subst, arith}
-use Rattle.std.specs.Prelude.{Option, Some, None, min, reverse}
+use Rattle.std.specs.Prelude.{Option, Some, None, min, option_map, reverse, unwrap_or}
 use Rattle.camac_run.specs.Runner.{last_words_in}
 use Rattle.camac_run.specs.Back.{back_in}
 use Rattle.camac_c.specs.Ahead.{numbers_ahead}
@@ -10,6 +10,7 @@ use Rattle.camac_c.specs.Place.{numbers_of_place}
 use Rattle.camac_c.specs.Plain.{only_code}
 use Rattle.camac_c.specs.Service.{name_at, numbers_at}
 use Rattle.camac_c.specs.Talk.{AnswersBytes, AnswersCode, AnswersCount, AnswersGoOn, AnswersNext, AnswersStep, AnswersText, AnswersWants, Lists, Talks, TellsIf, TellsWords}
+use Rattle.camac_c.specs.Transfer.{numbers_in, words_in}
 use Rattle.camac_c.specs.declared.plain.SessionAsk.{SessionAsk}
 use Rattle.camac_c.specs.declared.plain.SessionAsk.TheVariants as ask
 use Rattle.camac_c.specs.declared.plain.CamacAnswer.{CamacAnswer}
@@ -39,6 +40,8 @@ written None after a none told ws h = h.1
 written (Some s) None a none told ws h = absurd h
 written (Some s) (Some after) ask.Wants none told ws h = h.0
 written (Some s) (Some after) ask.Ahead none told ws h = h.1.2.0 ∙ filled_words_none (numbers_ahead s.checked.now.plan s.runner h.1.0)
+written (Some s) (Some after) ask.Transfer none told ws h = h.1.1.1.1.1.1.0 ∙ filled_words_none (unwrap_or (option_map numbers_in h.1.1.1.0) [])
+written (Some s) (Some after) ask.ToWrite none told ws h = h.1.1.1.1.1.1.0 ∙ filled_words_none (unwrap_or (option_map words_in h.1.1.1.0) [])
 written (Some s) (Some after) ask.Back none told ws h = h.1.1.0 ∙ filled_words_none (numbers_ahead s.checked.now.plan s.runner (back_in s.runner))
 written (Some s) (Some after) (ask.Next a) none told ws h = h.0
 written (Some s) (Some after) (ask.Step a) none told ws h = h.0

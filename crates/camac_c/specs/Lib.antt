@@ -14,4 +14,5 @@ pub mod Service
 pub mod Talk
 pub mod Texts
 pub mod Told
+pub mod Transfer
 pub mod Width

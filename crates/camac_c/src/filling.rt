@@ -2,11 +2,13 @@
 
 ghost use Rattle.std.specs.Prelude.{◌≡◌, length};
 ghost use Rattle.camac_engines.specs.declared.fault.ToolFault.{ToolFault};
-ghost use Rattle.camac_c.specs.Filled.{Gives, GivesNothing};
+ghost use Rattle.camac_c.specs.Filled.{Gives, GivesNothing, filled_words};
 ghost use Rattle.camac_c.specs.Texts.{GoesOut, engine_code, fault_code};
 
 use crate::plain::{LONG, NO_MEMORY, OK, REFUSED};
+use byteorder::{ByteOrder, LittleEndian};
 use camac_engines::{Outcome, ToolFault};
+use camac_word::Word24;
 
 /// Puts a whole text into a buffer, as far as there is room, and tells its size.
 pub fn give(bytes: &[u8], text: &mut [u8], size: &mut usize)
@@ -59,4 +61,16 @@ pub fn fault_code(fault: ToolFault) -> u32
         ToolFault::TooLong => LONG,
         _ => NO_MEMORY,
     }
+}
+
+/// As many words as there is room for, the least byte of each first; returns the number of all.
+pub fn write_words(held: &[Word24], bytes: &mut [u8]) -> usize
+    ensures all { result ≡ length held.now }
+    ensures written { bytes.new ≡ filled_words held.now bytes.old }
+{
+    let n = held.len().min(bytes.len() / 4);
+    for i in 0..n {
+        LittleEndian::write_u32(&mut bytes[4 * i..], held[i].get());
+    }
+    held.len()
 }

@@ -24,6 +24,7 @@ mod response;
 mod service;
 mod session;
 mod texts;
+mod transfer;
 
 use camac_word::Watched;
 use filling::{fault_code, give, give_nothing};

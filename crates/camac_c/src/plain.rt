@@ -91,6 +91,10 @@ pub enum SessionAsk {
     Limit(u32),
     /// To go on after a pause.
     GoOn,
+    /// What is left of the transfer whose cycle is wanted.
+    Transfer,
+    /// The words that are left to write in it.
+    ToWrite,
     /// What sets the crates back, as they were at the demand of the service in progress.
     Back,
     /// To leave the service in progress.

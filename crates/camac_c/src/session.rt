@@ -8,7 +8,6 @@ ghost use Rattle.camac_run.specs.Runner.{last_words_in};
 ghost use Rattle.camac_run.specs.Waits.{GoesOnUpTo, waits_of};
 ghost use Rattle.camac_c.specs.Abandoned.{LeavesService};
 ghost use Rattle.camac_c.specs.Ahead.{numbers_ahead};
-ghost use Rattle.camac_c.specs.Filled.{filled_words};
 ghost use Rattle.camac_c.specs.Last.{last_lines, last_record};
 ghost use Rattle.camac_c.specs.Paused.{GoesOnIf, Limits};
 ghost use Rattle.camac_c.specs.Plain.{only_code};
@@ -19,7 +18,7 @@ ghost use Rattle.camac_c.specs.Width.{width_read, width_wanted};
 
 use crate::abandon::write_crates;
 use crate::ahead::numbers_ahead;
-use crate::filling::give;
+use crate::filling::{give, write_words};
 use crate::held::{Held, keep_held, release_held, write_held};
 use crate::last::{Deed, Last, give_lines, give_record};
 use crate::loose::Loose;
@@ -29,7 +28,7 @@ use crate::plain::{
     OVERRUN, RANGE, SPENT, STOPPED, SessionAsk, Told, only_code,
 };
 use crate::service::{name_of, numbers_of, write_numbers};
-use byteorder::{ByteOrder, LittleEndian};
+use crate::transfer::{tell_transfer, tell_words_to_write};
 use camac_branch::{Answer, Command, CycleDone, Overrun, Plan};
 use camac_checked::Checked;
 use camac_event::Usage;
@@ -104,6 +103,8 @@ pub fn step<'a>(
         SessionAsk::Numbers(number) => *told = numbers(&session, number, bytes),
         SessionAsk::Limit(most) => *told = limit(&mut session, most),
         SessionAsk::GoOn => *told = go_on(&mut session),
+        SessionAsk::Transfer => *told = tell_transfer(&session.runner, bytes),
+        SessionAsk::ToWrite => *told = tell_words_to_write(&session.runner, bytes),
         SessionAsk::Back => *told = back(&session, bytes),
         SessionAsk::Abandon => *told = abandon(&mut session, bytes),
         SessionAsk::Rewind => *told = rewind(&mut session),
@@ -334,8 +335,8 @@ fn tell_operations(session: &Session, wanted: &[Wanted], bytes: &mut [u8]) -> To
     counted(write_numbers(numbers.as_slice(), bytes))
 }
 
-// What a call tells that counts.
-fn counted(count: usize) -> Told
+/// What a call tells that counts.
+pub fn counted(count: usize) -> Told
     ensures { result ≡ counted count }
 {
     Told {
@@ -594,16 +595,4 @@ fn crates_of(crates: &[CrateNo]) -> [u8; 8]
         listed[i] = crates[i].get() as u8;
     }
     listed
-}
-
-// As many words as there is room for, the least byte of each first; returns the number of all.
-fn write_words(held: &[Word24], bytes: &mut [u8]) -> usize
-    ensures all { result ≡ length held.now }
-    ensures written { bytes.new ≡ filled_words held.now bytes.old }
-{
-    let n = held.len().min(bytes.len() / 4);
-    for i in 0..n {
-        LittleEndian::write_u32(&mut bytes[4 * i..], held[i].get());
-    }
-    held.len()
 }

@@ -96,6 +96,20 @@ impl Scan {
         }
     }
 
+    /// The final address.
+    pub fn last(&self) -> Address
+        ensures { result ≡ self.now.last }
+    {
+        self.last
+    }
+
+    /// How many words are missing.
+    pub fn words(&self) -> u32
+        ensures { result ≡ self.now.words }
+    {
+        self.words
+    }
+
     /// How many cycles had Q=1.
     pub fn tally(&self) -> u32
         ensures tally { result ≡ self.now.tally }

@@ -72,6 +72,20 @@ impl QRepeat {
         }
     }
 
+    /// How many words are missing.
+    pub fn words(&self) -> u32
+        ensures { result ≡ self.now.words }
+    {
+        self.words
+    }
+
+    /// How many further cycles there are at most.
+    pub fn cycles(&self) -> u32
+        ensures { result ≡ self.now.cycles }
+    {
+        self.cycles
+    }
+
     /// How many cycles had Q=1.
     pub fn tally(&self) -> u32
         ensures tally { result ≡ self.now.tally }

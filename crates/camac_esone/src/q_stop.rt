@@ -69,6 +69,13 @@ impl QStop {
         }
     }
 
+    /// How many further cycles there are at most.
+    pub fn cycles(&self) -> u32
+        ensures { result ≡ self.now.cycles }
+    {
+        self.cycles
+    }
+
     /// How many cycles had Q=1.
     pub fn tally(&self) -> u32
         ensures tally { result ≡ self.now.tally }

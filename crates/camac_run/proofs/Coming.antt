@@ -118,7 +118,7 @@ halts {A} o a os run c at e is some answers = (
   λ d. absurd (subst (λ (b : Behaviour A). Does b) (e answers) d),
 )
 
-short_waits : {A : Type 0} (c : ℕ) (o : Option ℕ) (l : Bool) (m : Answer → List Answer → Action) (s : State) (go : State → Behaviour A) → IsSome o → Waits (then_do (follow c (outcome o l []) m s) go)
+pub short_waits : {A : Type 0} (c : ℕ) (o : Option ℕ) (l : Bool) (m : Answer → List Answer → Action) (s : State) (go : State → Behaviour A) → IsSome o → Waits (then_do (follow c (outcome o l []) m s) go)
 short_waits c None l m s go h = absurd (false≢true h)
 short_waits c (Some w) l m s go h = tt
 

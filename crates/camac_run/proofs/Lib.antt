@@ -15,3 +15,4 @@ pub mod Abandoned
 pub mod Coming
 pub mod Steps
 pub mod Undone
+pub mod Transfers

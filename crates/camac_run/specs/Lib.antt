@@ -14,3 +14,4 @@ pub mod Ahead
 pub mod Sure
 pub mod Waits
 pub mod Back
+pub mod Transfer

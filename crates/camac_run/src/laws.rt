@@ -6,6 +6,8 @@ ghost use Rattle.camac_run.specs.Back.{SettingBackHolds};
 ghost use Rattle.camac_run.specs.Holds.{AllIsTold, GoingOnHolds, ResumingHolds, WantsAreWanted};
 ghost use Rattle.camac_run.specs.Headline.{RunsAlways, RunsByHeadline, LeavesFewEvents};
 ghost use Rattle.camac_run.specs.Requested.{RequestsAreSafe};
+ghost use Rattle.camac_run.specs.Transfer.{TransfersBegin, TransfersGoOn};
+ghost use Rattle.camac_run.specs.Waits.{WaitsDecide};
 
 use camac_checked::Checked;
 
@@ -56,4 +58,15 @@ pub fn setting_back_holds()
 pub fn ahead_is_made()
     ensures made { AheadIsMade }
     ensures beginnings { BeginningsAreAhead }
+{}
+
+/// What is left of a transfer begins with the cycle that the run wants, and the run makes its cycles one after the other, as their Q want it.
+pub fn transfers_go_on()
+    ensures begins { TransfersBegin }
+    ensures goes_on { TransfersGoOn }
+{}
+
+/// An answer is used exactly if its wait is not longer than the one that is told before it.
+pub fn waits_decide()
+    ensures { WaitsDecide }
 {}

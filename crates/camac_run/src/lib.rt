@@ -12,6 +12,7 @@ mod place;
 mod progress;
 mod runner;
 mod service;
+mod transfer;
 
 pub use ahead::{AHEAD, Ahead};
 pub use back::Back;
@@ -19,9 +20,10 @@ pub use camac_machine::Item;
 pub use items::Items;
 pub use laws::{
     abandoning_holds, ahead_is_made, requests_are_safe, runner_holds_the_rest, runs_by_headline,
-    setting_back_holds,
+    setting_back_holds, transfers_go_on, waits_decide,
 };
 pub use log::{Log, run};
 pub use place::Place;
 pub use progress::{End, Progress, Used, Wanted};
 pub use runner::{FullRunner, Runner};
+pub use transfer::{TransferLeft, TransferMode};

@@ -16,6 +16,7 @@ ghost use Rattle.camac_run.specs.Operation.{IsWaiting, Wants, operation};
 ghost use Rattle.camac_run.specs.Place.{IsPlace};
 ghost use Rattle.camac_run.specs.Requested.{IsSafeRequest, held_in};
 ghost use Rattle.camac_run.specs.Sure.{cycle_of};
+ghost use Rattle.camac_run.specs.Transfer.{IsLeft, is_transfer};
 ghost use Rattle.camac_run.specs.Waits.{GoesOnUpTo, waits_in, waits_of};
 
 use crate::ahead::{Ahead, add_following};
@@ -24,6 +25,7 @@ use crate::leaving::leave_service;
 use crate::place::Place;
 use crate::progress::{Progress, Used, Wanted};
 use crate::service::service_for;
+use crate::transfer::{TransferLeft, left_of};
 use arrayvec::ArrayVec;
 use camac_branch::{Answer, Branch, Overrun, demand, locked};
 use camac_checked::Checked;
@@ -352,6 +354,23 @@ impl<'a, const V: usize, const DEPTH: usize, const CAP: usize> Runner<'a, V, DEP
         }
         add_following(&self.machine, pending, &mut ahead);
         ahead
+    }
+
+    /// What is left of the transfer whose cycle the service in progress waits for; none where it waits for something else.
+    pub fn transfer(&self) -> Option<TransferLeft<'a>>
+        ensures left { IfSome result (IsLeft self.now) }
+        ensures some { is_some result ≡ is_transfer self.now.pending }
+    {
+        match &self.pending {
+            None => None,
+            Some(pending) => match pending {
+                Pending::Cycle(_) => None,
+                Pending::Read { .. } => None,
+                Pending::Lock { .. } => None,
+                Pending::Transfer(transfer) => Some(left_of(transfer)),
+                Pending::Pause => None,
+            },
+        }
     }
 
     /// The law that a run whose waits were all permitted wants an answer, unless it pauses.
