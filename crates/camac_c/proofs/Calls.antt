@@ -10,7 +10,9 @@ use Rattle.camac_c.specs.Place.{numbers_of_place}
 use Rattle.camac_c.specs.Plain.{only_code}
 use Rattle.camac_c.specs.Service.{name_at, numbers_at}
 use Rattle.camac_c.specs.Talk.{AnswersBytes, AnswersCode, AnswersCount, AnswersGoOn, AnswersNext, AnswersStep, AnswersText, AnswersWants, Lists, Talks, TellsIf, TellsWords}
-use Rattle.camac_c.specs.Transfer.{numbers_in, words_in}
+use Rattle.camac_machine.specs.Course.{words_sent}
+use Rattle.camac_run.specs.declared.transfer.TransferLeft.{TransferLeft}
+use Rattle.camac_c.specs.Transfer.{numbers_in}
 use Rattle.camac_c.specs.declared.plain.SessionAsk.{SessionAsk}
 use Rattle.camac_c.specs.declared.plain.SessionAsk.TheVariants as ask
 use Rattle.camac_c.specs.declared.plain.CamacAnswer.{CamacAnswer}
@@ -40,8 +42,8 @@ written None after a none told ws h = h.1
 written (Some s) None a none told ws h = absurd h
 written (Some s) (Some after) ask.Wants none told ws h = h.0
 written (Some s) (Some after) ask.Ahead none told ws h = h.1.2.0 ∙ filled_words_none (numbers_ahead s.checked.now.plan s.runner h.1.0)
-written (Some s) (Some after) ask.Transfer none told ws h = h.1.1.1.1.1.1.0 ∙ filled_words_none (unwrap_or (option_map numbers_in h.1.1.1.0) [])
-written (Some s) (Some after) ask.ToWrite none told ws h = h.1.1.1.1.1.1.0 ∙ filled_words_none (unwrap_or (option_map words_in h.1.1.1.0) [])
+written (Some s) (Some after) ask.Transfer none told ws h = h.1.2.0 ∙ filled_words_none (unwrap_or (option_map numbers_in h.1.0) [])
+written (Some s) (Some after) ask.ToWrite none told ws h = h.1.2.0 ∙ filled_words_none (unwrap_or (option_map (λ (t : TransferLeft). unwrap_or (words_sent t.table) []) h.1.0) [])
 written (Some s) (Some after) ask.Back none told ws h = h.1.1.0 ∙ filled_words_none (numbers_ahead s.checked.now.plan s.runner (back_in s.runner))
 written (Some s) (Some after) (ask.Next a) none told ws h = h.0
 written (Some s) (Some after) (ask.Step a) none told ws h = h.0

@@ -1,5 +1,5 @@
 -- What the calls of a session say.
-use Rattle.std.specs.Prelude.{◌≡◌, ◌<◌, ◌≤◌, ◌-◌, ℕ, List, [], length, reverse, true, false, Option, None, Some, IfSome, is_some, nat_eq, option_map, unwrap_or, if◌then◌else◌}
+use Rattle.std.specs.Prelude.{◌≡◌, ◌<◌, ◌≤◌, ◌-◌, ℕ, List, [], length, reverse, true, false, Option, None, Some, IfSome, nat_eq, option_map, unwrap_or, if◌then◌else◌}
 use Rattle.camac_branch.specs.Branch.{Answer as BranchAnswer}
 use Rattle.camac_branch.specs.declared.answer.Overrun.{Overrun}
 use Rattle.camac_checked.specs.Checked.{CheckedScript}
@@ -10,12 +10,12 @@ use Rattle.camac_run.specs.Holds.{HoldsAfter}
 use Rattle.camac_run.specs.Operation.{Wants}
 use Rattle.camac_run.specs.Requested.{IsSafeRequest, held_in}
 use Rattle.camac_run.specs.Runner.{RunnerState, rest, last_words_in, KeepsLimit, Progresses}
-use Rattle.camac_run.specs.Transfer.{IsLeft, TransfersBegin, TransfersGoOn, is_transfer}
 use Rattle.camac_run.specs.Waits.{GoesOnUpTo, waits_of}
 use Rattle.camac_run.specs.declared.place.Place.{Place}
 use Rattle.camac_run.specs.declared.progress.Progress.{Progress}
 use Rattle.camac_run.specs.declared.progress.Wanted.{Wanted}
 use Rattle.camac_run.specs.declared.transfer.TransferLeft.{TransferLeft}
+use Rattle.camac_machine.specs.Course.{words_sent}
 use Rattle.camac_machine.specs.Rest.{is_paused}
 use Rattle.camac_c.specs.Abandoned.{LeavesService}
 use Rattle.camac_c.specs.Ahead.{numbers_ahead}
@@ -27,7 +27,7 @@ use Rattle.camac_c.specs.Place.{IsAt, numbers_of_place}
 use Rattle.camac_c.specs.Plain.{only_code}
 use Rattle.camac_c.specs.Service.{name_at, numbers_at}
 use Rattle.camac_c.specs.Told.{InRange, answer_in, asked, counted, did, while_paused}
-use Rattle.camac_c.specs.Transfer.{numbers_in, words_in}
+use Rattle.camac_c.specs.Transfer.{IsOfTransfer, numbers_in}
 use Rattle.camac_c.specs.Width.{KnowsWidth}
 use Rattle.camac_c.specs.declared.last.Deed.TheVariants.{Nothing}
 use Rattle.camac_c.specs.declared.plain.SessionAsk.{SessionAsk}
@@ -125,10 +125,9 @@ TellsAhead s old new told = (os : List Wanted) × IsAhead s.runner os × TellsWo
 abbrev pub TellsBack : Session → (old new : List ℕ) → Told → Type 0
 TellsBack s old new told = SettingBackHolds × TellsWords (numbers_ahead s.checked.now.plan s.runner (back_in s.runner)) old new told
 
--- of what is left of the transfer whose cycle is waited for, which the run makes cycle after cycle; nothing where it is no transfer
+-- what is left of the transfer whose cycle is waited for
 abbrev pub TellsTransfer : (TransferLeft → List ℕ) → RunnerState → (old new : List ℕ) → Told → Type 0
-TellsTransfer numbers h old new told =
-    TransfersBegin × TransfersGoOn × ((left : Option TransferLeft) × IfSome left (IsLeft h) × (is_some left ≡ is_transfer h.pending) × TellsWords (unwrap_or (option_map numbers left) []) old new told)
+TellsTransfer numbers h old new told = (left : Option TransferLeft) × IsOfTransfer h left × TellsWords (unwrap_or (option_map numbers left) []) old new told
 
 -- a text, as far as there is room
 abbrev pub Lists : List ℕ → (old new : List ℕ) → Told → Type 0
@@ -152,7 +151,7 @@ abbrev pub Steps : Session → SessionAsk → Session → (old new : List ℕ) �
 Steps s ask.Wants after old new told = (new ≡ old) × TellsWant s after told
 Steps s ask.Ahead after old new told = (after ≡ s) × TellsAhead s old new told
 Steps s ask.Transfer after old new told = (after ≡ s) × TellsTransfer numbers_in s.runner old new told
-Steps s ask.ToWrite after old new told = (after ≡ s) × TellsTransfer words_in s.runner old new told
+Steps s ask.ToWrite after old new told = (after ≡ s) × TellsTransfer (λ t. unwrap_or (words_sent t.table) []) s.runner old new told
 Steps s ask.Back after old new told = (after ≡ s) × TellsBack s old new told
 Steps s (ask.Next a) after old new told = (new ≡ old) × TellsNext a s after told
 Steps s (ask.Step a) after old new told = (new ≡ old) × TellsStep a s after told

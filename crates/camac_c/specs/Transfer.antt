@@ -1,7 +1,7 @@
 -- What C is told of what is left of a transfer.
-use Rattle.std.specs.Prelude.{ℕ, List, [], ◌∷◌, false, true, is_some, unwrap_or}
-use Rattle.camac_machine.specs.Course.{words_sent}
-use Rattle.camac_run.specs.Transfer.{next_in}
+use Rattle.std.specs.Prelude.{◌≡◌, ℕ, List, [], ◌∷◌, false, true, Option, IfSome, is_some}
+use Rattle.camac_run.specs.Runner.{RunnerState}
+use Rattle.camac_run.specs.Transfer.{IsLeft, is_transfer, next_in}
 use Rattle.camac_run.specs.declared.transfer.TransferLeft.{TransferLeft}
 use Rattle.camac_run.specs.declared.transfer.TransferMode.{TransferMode}
 use Rattle.camac_run.specs.declared.transfer.TransferMode.TheVariants.{QStop, QRepeat, Scan}
@@ -17,6 +17,7 @@ abbrev pub numbers_in : TransferLeft → List ℕ
 numbers_in t =
     mode_in t.mode ∷ t.last.station ∷ t.last.sub_address ∷ t.cycles ∷ t.words ∷ flag_in (is_some (next_in t (false ∷ []))) ∷ flag_in (is_some (next_in t (true ∷ []))) ∷ []
 
--- the words that it still writes; a read writes none
-abbrev pub words_in : TransferLeft → List ℕ
-words_in t = unwrap_or (words_sent t.table) []
+-- what is left of it, none where the service in progress waits for no transfer
+pub record IsOfTransfer (h : RunnerState) (left : Option TransferLeft) : Type 0 where
+  pub is_left : IfSome left (IsLeft h)
+  pub some : is_some left ≡ is_transfer h.pending

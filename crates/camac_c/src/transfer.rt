@@ -1,8 +1,9 @@
 // What is left of the transfer whose cycle a run wants.
 
-ghost use Rattle.std.specs.Prelude.{◌≡◌};
+ghost use Rattle.std.specs.Prelude.{◌≡◌, [], unwrap_or};
+ghost use Rattle.camac_machine.specs.Course.{words_sent};
 ghost use Rattle.camac_c.specs.Talk.{AnswersBytes, TellsTransfer};
-ghost use Rattle.camac_c.specs.Transfer.{mode_in, numbers_in, words_in};
+ghost use Rattle.camac_c.specs.Transfer.{mode_in, numbers_in};
 ghost use Rattle.camac_c.specs.declared.plain.SessionAsk.TheVariants as ask;
 
 use crate::filling::write_words;
@@ -10,7 +11,7 @@ use crate::handle::Handle;
 use crate::plain::{SessionAsk, Told};
 use crate::service::write_numbers;
 use crate::session::counted;
-use camac_run::{FullRunner, TransferLeft, TransferMode, transfers_go_on};
+use camac_run::{FullRunner, TransferLeft, TransferMode};
 use camac_word::Word24;
 use std::alloc::Global;
 
@@ -62,7 +63,6 @@ fn numbers_of(left: &TransferLeft) -> [u32; 7]
 pub fn tell_transfer(runner: &FullRunner, bytes: &mut [u8]) -> Told
     ensures { TellsTransfer numbers_in runner.now bytes.old bytes.new result }
 {
-    transfers_go_on();
     match runner.transfer() {
         None => counted(write_numbers(&[], bytes)),
         Some(left) => counted(write_numbers(&numbers_of(&left), bytes)),
@@ -71,9 +71,8 @@ pub fn tell_transfer(runner: &FullRunner, bytes: &mut [u8]) -> Told
 
 /// The words that are left to write in it.
 pub fn tell_words_to_write(runner: &FullRunner, bytes: &mut [u8]) -> Told
-    ensures { TellsTransfer words_in runner.now bytes.old bytes.new result }
+    ensures { TellsTransfer (λ t. unwrap_or (words_sent t.table) []) runner.now bytes.old bytes.new result }
 {
-    transfers_go_on();
     match runner.transfer() {
         None => counted(write_words(&[], bytes)),
         Some(left) => counted(write_words(words_of(&left), bytes)),
@@ -81,7 +80,7 @@ pub fn tell_words_to_write(runner: &FullRunner, bytes: &mut [u8]) -> Told
 }
 
 fn words_of<'a>(left: &TransferLeft<'a>) -> &'a [Word24]
-    ensures { result.now ≡ words_in left.now }
+    ensures { result.now ≡ unwrap_or (words_sent left.now.table) [] }
 {
     match left.table {
         None => &[],
