@@ -1,61 +1,15 @@
 -- What one call reads of a text.
-use Rattle.std.proofs.Common.{◌≡◌, ℕ, ◌+◌, ◌≤◌, ◌<◌, Bool, true, false, ◌==◌, cond, nat_le, nat_lt, List, [], ◌∷◌, ◌++◌, length, drop, Option, Some, None, Result, Ok, Err, refl, sym, ap, subst, ◌∙◌, append-nil, length-append, drop_of_length-le, length-take-le, take, arith, inl, inr, suc, not, ◌-◌, length-drop, take-add, take-take, take_at, drop_at}
-use Rattle.std.proofs.lemmas.Bool.{cases_lt, ne_eqb, eqb-true, and_parts, le-leb, lt-ltb, lt-leb}
+use Rattle.std.proofs.Common.{◌≡◌, ℕ, ◌+◌, ◌≤◌, ◌<◌, Bool, true, false, ◌==◌, cond, nat_le, nat_lt, List, [], ◌∷◌, ◌++◌, length, drop, Option, Some, None, Result, Ok, Err, refl, sym, ap, subst, ◌∙◌, append-nil, length-append, drop_of_length-le, length-take-le, take, arith, inl, inr}
+use Rattle.std.proofs.lemmas.Bool.{cases_lt, ne_eqb, eqb-true, and_parts, le-leb, lt-ltb}
+use Rattle.std.proofs.lemmas.List.{drop_at}
 use Rattle.std.specs.Io.KnownBytes.{Consumes, IsAtEnd}
 use Rattle.camac_branch.specs.Branch.{Answer}
 use Rattle.camac_answer.specs.declared.fault.AnswerRule.{AnswerRule}
 use Rattle.camac_answer.specs.declared.fault.AnswerRule.TheVariants.{LineShape, TooMany}
-use Rattle.camac_answer.specs.Lines.{lines, first_line, has_shape, fields_answer, line_answer, with_first, is_inside}
+use Rattle.camac_answer.specs.Lines.{lines, first_line, has_shape, fields_answer, line_answer}
 use Rattle.camac_answer.specs.Reading.{Reading, Answered, broken, no_more, with_line, reading_from}
-use Rattle.camac_answer.specs.Answers.{left_in, IsNext, judged, next_answer, window, AnswersAreFew}
-use Rattle.std.proofs.lemmas.List.Sums.{take_while-cons}
-use Rattle.std.proofs.lemmas.Slice.{take-put_mid}
-use Rattle.std.proofs.KnownBytes.{Consumes-trans}
-use borrow.Rule.Slice.PartMut.{put_mid, same_len_mid}
-
--- The first line of a text, and what follows it.
-
--- what follows the first line and its LF
-abbrev pub after_line : List ℕ → List ℕ
-after_line text = drop (length (first_line text) + 1) text
-
-ends_step : (inside : Bool) (b : ℕ) (w rest : List ℕ) → (length (first_line w) < length w → first_line (w ++ rest) ≡ first_line w)
-    → length (cond inside (b ∷ first_line w) []) < length (b ∷ w) → cond inside (b ∷ first_line (w ++ rest)) [] ≡ cond inside (b ∷ first_line w) []
-ends_step true b w rest same h = ap (λ (l : List ℕ). b ∷ l) (same (omega (arith, h)))
-ends_step false b w rest same h = refl
-
--- the first line ends in these bytes
-pub line_ends : (w rest : List ℕ) → length (first_line w) < length w → first_line (w ++ rest) ≡ first_line w
-line_ends [] rest h = absurd (omega (arith, h))
-line_ends (b ∷ w) rest h =
-    take_while-cons is_inside b (w ++ rest) ∙ ends_step (is_inside b) b w rest (line_ends w rest) (rw (take_while-cons is_inside b w) at h)
-    ∙ sym (take_while-cons is_inside b w)
-
-goes_step : (inside : Bool) (b : ℕ) (w rest : List ℕ) → (length w ≤ length (first_line w) → first_line (w ++ rest) ≡ w ++ first_line rest)
-    → length (b ∷ w) ≤ length (cond inside (b ∷ first_line w) []) → cond inside (b ∷ first_line (w ++ rest)) [] ≡ b ∷ (w ++ first_line rest)
-goes_step true b w rest same h = ap (λ (l : List ℕ). b ∷ l) (same (omega (arith, h)))
-goes_step false b w rest same h = absurd (omega (arith, h))
-
--- the first line does not end in these bytes
-pub line_goes_on : (w rest : List ℕ) → length w ≤ length (first_line w) → first_line (w ++ rest) ≡ w ++ first_line rest
-line_goes_on [] rest h = refl
-line_goes_on (b ∷ w) rest h =
-    take_while-cons is_inside b (w ++ rest) ∙ goes_step (is_inside b) b w rest (line_goes_on w rest) (rw (take_while-cons is_inside b w) at h)
-
-pub whole_line : (w : List ℕ) → length w ≤ length (first_line w) → first_line w ≡ w
-whole_line w h = sym (ap first_line (append-nil w)) ∙ line_goes_on w [] h ∙ append-nil w
-
-cut : (lf : Bool) (b : ℕ) (text : List ℕ) → with_first b (lines text) ≡ (b ∷ first_line text) ∷ lines (after_line text)
-    → cond lf ([] ∷ lines text) (with_first b (lines text)) ≡ cond (not lf) (b ∷ first_line text) [] ∷ lines (drop (length (cond (not lf) (b ∷ first_line text) []) + 1) (b ∷ text))
-cut true b text h = refl
-cut false b text h =
-    let more : length (b ∷ first_line text) + 1 ≡ suc (length (first_line text) + 1) = omega arith in
-    rw more h
-
--- a text is its first line and the lines of what follows
-pub lines_first : (b : ℕ) (text : List ℕ) → lines (b ∷ text) ≡ first_line (b ∷ text) ∷ lines (after_line (b ∷ text))
-lines_first b [] = rw (take_while-cons is_inside b []) (cut (b == 10) b [] refl)
-lines_first b (d ∷ text) = rw (take_while-cons is_inside b (d ∷ text)) (cut (b == 10) b (d ∷ text) (ap (with_first b) (lines_first d text)))
+use Rattle.camac_answer.specs.Answers.{left_in, IsNext, judged, next_answer, window}
+use Rattle.camac_answer.proofs.Texts.{after_line, line_ends, line_goes_on, whole_line, lines_first}
 
 shapeless : (line : List ℕ) → (length line ≡ 19 → ⊥) → line_answer line ≡ Err LineShape
 shapeless line h = rw (ne_eqb (length line) 19 h) refl
@@ -180,41 +134,3 @@ module _ (limit : ℕ) where
   -- a line with as much room as judges it
   pub room_for : (n w : ℕ) (room : List ℕ) → length room ≡ 20 → w ≡ window limit n → length (take w room) ≡ window limit n
   room_for n w room size same = length-take-le w room (omega (arith, size, same, window_to (nat_lt n limit))) ∙ same
-
--- A text gives no more answers than it may.
-
-few_line : (limit n : ℕ) (r : Result Answer AnswerRule) (rest : Reading) → length rest.answers + (n + 1) ≤ limit → length (with_line n r rest).answers + n ≤ limit
-few_line limit n (Ok a) rest h = omega (arith, h)
-few_line limit n (Err rule) rest h = omega (arith, h)
-
-few_from : (limit n : ℕ) (ls : List (List ℕ)) → n ≤ limit → length (reading_from limit n ls).answers + n ≤ limit
-few_from limit n [] h = omega (arith, h)
-few_from limit n (l ∷ ls) h =
-    elim (cases_lt n limit) [
-      | inl less ↦ rw (lt-leb limit n less) (few_line limit n (line_answer l) (reading_from limit (n + 1) ls) (few_from limit (n + 1) ls (omega (arith, less))))
-      | inr more ↦ rw (le-leb limit n more) (omega (arith, h))
-    ]
-
-pub few : AnswersAreFew
-few limit text = let h = few_from limit 0 (lines text) (omega arith) in omega (arith, h)
-
--- The bytes that were read into a line.
-
--- n bytes were read after those before them
-take_filled : (line part : List ℕ) (len room n : ℕ) → len ≤ length line → n ≤ length part → take (len + n) (put_mid len room line part) ≡ take len line ++ take n part
-take_filled line part len room n within few =
-    let prefix = length-take-le len line within in
-    sym (take-take (len + n) (len + length part) (put_mid len room line part) (omega (arith, few)))
-    ∙ ap (take (len + n)) (take-put_mid len room line part (len + length part) (omega arith) within)
-    ∙ take-add len n (take len line ++ part)
-    ∙ (λ k. take_at (take len line) part len prefix k ++ take n (drop_at (take len line) part len prefix k))
-
-pub filled : (line part : List ℕ) (len room n : ℕ) (a b c : Option (List ℕ)) → len ≤ length line → n ≤ length part
-    → Consumes a b (take len line) → Consumes b c (take n part) → Consumes a c (take (len + n) (put_mid len room line part))
-filled line part len room n a b c within few before now =
-    subst (λ (l : List ℕ). Consumes a c l) (sym (take_filled line part len room n within few)) (Consumes-trans a b c (take len line) (take n part) before now)
-
--- the line has its length still
-pub same_length : (line part : List ℕ) (len : ℕ) → len ≤ length line → length part ≡ length line - len → length (put_mid len (length line - len) line part) ≡ length line
-same_length line part len within long =
-    same_len_mid len (length line - len) line part (omega (arith, long, length-take-le (length line - len) (drop len line) (omega (arith, length-drop len line))))

@@ -1,4 +1,5 @@
 pub mod Bits
 pub mod Entries
 pub mod Rows
+pub mod Sums
 pub mod Widths

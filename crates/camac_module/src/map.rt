@@ -47,7 +47,7 @@ pub type ModuleType = CommandMap<16>;
 impl<const A: usize> Model for CommandMap<A> {
     ghost use Rattle.std.specs.Prelude.{map};
     ghost use Rattle.camac_module.specs.Commands.{Commands, IsCommandMap};
-    ghost use Rattle.camac_module.specs.Entry.{entries_of};
+    ghost use Rattle.camac_module.specs.Row.{entries_of};
 
     ghost Value = { Commands };
 

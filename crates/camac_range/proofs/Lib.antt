@@ -1,2 +1,4 @@
+pub mod Products
+pub mod Quotients
 pub mod Left
 pub mod Within

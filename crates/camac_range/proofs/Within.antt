@@ -1,132 +1,16 @@
 -- Numbers in the intervals that operators, meets, hulls and comparisons give.
-use Rattle.std.proofs.Common.{rules, ◌≡◌, ℕ, ◌+◌, ◌-◌, ◌<◌, ◌≤◌, true, cond, sym, ◌∙◌, subst, arith, Option, Some, None, ◌/◌, ◌%◌, false, ap, ◌*◌}
-use Rattle.std.specs.Prelude.{nat_eq, nat_lt, nat_le}
-use Rattle.std.proofs.lemmas.Bool.{and_parts, leb-true, ltb-true, eqb-true, eqb-false, not-true, cond_both, le-leb}
+use Rattle.std.proofs.Common.{rules, ◌≡◌, ℕ, ◌+◌, ◌-◌, ◌<◌, ◌≤◌, true, cond, sym, ◌∙◌, subst, arith, Option, Some, None}
+use Rattle.std.specs.Prelude.{nat_eq}
+use Rattle.std.proofs.lemmas.Bool.{and_parts, leb-true, ltb-true, eqb-true, eqb-false, not-true, cond_both}
 use Rattle.camac_range.specs.declared.comparison.Cmp.{Cmp}
 use Rattle.camac_range.specs.declared.comparison.Cmp.TheVariants.{Less, AtMost, More, AtLeast, Same, Differs}
 use Rattle.camac_range.specs.Compare.{compared}
-use Rattle.camac_range.specs.Number.{greatest, sum_of, quotient_of, rest_of, in_range, product_of}
+use Rattle.camac_range.specs.Number.{greatest, sum_of, quotient_of, rest_of}
 use Rattle.camac_range.specs.Interval.{Interval, interval, only, IsWithin, is_inside, meet, hull}
 use Rattle.camac_range.specs.Operators.{add, sub, div, rem}
 use Rattle.camac_range.specs.Narrow.{below, above, without, narrow}
-use Rattle.camac_range.specs.Laws.{HasNumber, IsLeft, IsInBoth, Operator, IsValueWithin, ContainsValues, IsExact, ContainsRests, SumsAreExact, DifferencesAreExact, MeetIsWhatIsInBoth, OppositeIsNot, TurnedIsSwapped, QuotientsAreExact, RestsAreContained, ProductsAreExact}
-use Rattle.std.proofs.Math.Nat.{le-div_iff_mul-le, div-mul-le_self, mod-lt, mod-eq_of_lt, le_trans}
-use Rattle.std.proofs.lemmas.Nat.{mul-le}
-
--- Products of the numbers of two intervals.
-
--- a number up to the greatest has itself as its value
-in_range-at : (n : ℕ) → n ≤ greatest → in_range n ≡ Some n
-in_range-at n h = ap (λ b. cond b (Some n) None) (le-leb n greatest h)
-
-low_end : (r : Interval) → HasNumber r → IsWithin r r.lo
-low_end r h = record { low = omega arith; high = h }
-
-high_end : (r : Interval) → HasNumber r → IsWithin r r.hi
-high_end r h = record { low = h; high = omega arith }
-
-pub products_exact : ProductsAreExact
-products_exact r s hr hs =
-    cond_both (nat_le (r.hi * s.hi) greatest) (Some (interval (r.lo * s.lo) (r.hi * s.hi))) None (IsExact product_of r s)
-    (λ e. let le : r.hi * s.hi ≤ greatest = leb-true (r.hi * s.hi) greatest e in
-    let least : r.lo * s.lo ≤ r.hi * s.hi = mul-le r.lo s.lo r.hi s.hi hr hs in
-    record {
-      contains = λ v w hv hw. let high : v * w ≤ r.hi * s.hi = mul-le v w r.hi s.hi hv.high hw.high in
-          subst (IsValueWithin (interval (r.lo * s.lo) (r.hi * s.hi))) (sym (in_range-at (v * w) (le_trans high le)))
-          (record { low = mul-le r.lo s.lo v w hv.low hw.low; high = high });
-      lowest = record {
-        left = r.lo;
-        right = s.lo;
-        in_left = low_end r hr;
-        in_right = low_end s hs;
-        same = in_range-at (r.lo * s.lo) (le_trans least le);
-      };
-      highest = record {
-        left = r.hi;
-        right = s.hi;
-        in_left = high_end r hr;
-        in_right = high_end s hs;
-        same = in_range-at (r.hi * s.hi) le;
-      };
-    })
-    (λ e. record {
-      left = r.hi;
-      right = s.hi;
-      in_left = high_end r hr;
-      in_right = high_end s hs;
-      same = ap (λ b. cond b (Some (r.hi * s.hi)) None) e;
-    })
-
--- Quotients and remainders of the numbers of an interval by one number.
-
-div_mono : (a b d : ℕ) → 0 < d → a ≤ b → a / d ≤ b / d
-div_mono a b d pos h = (le-div_iff_mul-le pos).1 (le_trans (div-mul-le_self a d) h)
-
-itself : (d : ℕ) → IsWithin (only d) d
-itself d = record { low = omega arith; high = omega arith }
-
-is_same : (d w : ℕ) → IsWithin (only d) w → d ≡ w
-is_same d w h = omega (arith, h)
-
--- a number from 1 divides
-divides : (d v : ℕ) → nat_eq d 0 ≡ false → quotient_of v d ≡ Some (v / d)
-divides d v e = ap (λ b. cond b None (Some (v / d))) e
-
-leaves : (d v : ℕ) → nat_eq d 0 ≡ false → rest_of v d ≡ Some (v % d)
-leaves d v e = ap (λ b. cond b None (Some (v % d))) e
-
-above_zero : (d : ℕ) → nat_eq d 0 ≡ false → 0 < d
-above_zero d e = let some : d ≡ 0 → ⊥ = eqb-false d 0 e in omega (arith, some)
-
-divided_within : (r : Interval) (d v w : ℕ) → nat_eq d 0 ≡ false → IsWithin r v → IsWithin (only d) w → IsValueWithin (interval (r.lo / d) (r.hi / d)) (quotient_of v w)
-divided_within r d v w e hv hw =
-    let pos : 0 < d = above_zero d e in
-    let within : IsWithin (interval (r.lo / d) (r.hi / d)) (v / d)
-    = record { low = div_mono r.lo v d pos hv.low; high = div_mono v r.hi d pos hv.high } in
-    subst (λ n. IsValueWithin (interval (r.lo / d) (r.hi / d)) (quotient_of v n)) (is_same d w hw)
-    (subst (IsValueWithin (interval (r.lo / d) (r.hi / d))) (sym (divides d v e)) within)
-
-pub quotients_exact : QuotientsAreExact
-quotients_exact r d h =
-    cond_both (nat_eq d 0) None (Some (interval (r.lo / d) (r.hi / d))) (IsExact quotient_of r (only d))
-    (λ e. record {
-      left = r.hi;
-      right = d;
-      in_left = record { low = h; high = omega arith };
-      in_right = itself d;
-      same = ap (λ b. cond b None (Some (r.hi / d))) e;
-    })
-    (λ e. record {
-      contains = λ v w hv hw. divided_within r d v w e hv hw;
-      lowest = record { left = r.lo; right = d; in_left = record { low = omega arith; high = h }; in_right = itself d; same = divides d r.lo e };
-      highest = record { left = r.hi; right = d; in_left = record { low = h; high = omega arith }; in_right = itself d; same = divides d r.hi e };
-    })
-
--- the interval of remainders
-rests : Interval → ℕ → Interval
-rests r d = cond (nat_lt r.hi d) r (interval 0 (d - 1))
-
-remainder_within : (r : Interval) (d v : ℕ) → 0 < d → IsWithin r v → IsWithin (rests r d) (v % d)
-unfolding rests
-remainder_within r d v pos hv =
-    let lt : v % d < d = mod-lt v pos in
-    cond_both (nat_lt r.hi d) r (interval 0 (d - 1)) (λ s. IsWithin s (v % d))
-    (λ e. let b : r.hi < d = ltb-true r.hi d e in
-    let c : v < d = omega (arith, hv) in
-    subst (IsWithin r) (sym (mod-eq_of_lt c)) hv)
-    (λ e. record { low = omega arith; high = omega arith })
-
-rest_of_within : (r : Interval) (d v w : ℕ) → nat_eq d 0 ≡ false → IsWithin r v → IsWithin (only d) w → IsValueWithin (rests r d) (rest_of v w)
-rest_of_within r d v w e hv hw =
-    subst (λ n. IsValueWithin (rests r d) (rest_of v n)) (is_same d w hw)
-    (subst (IsValueWithin (rests r d)) (sym (leaves d v e)) (remainder_within r d v (above_zero d e) hv))
-
-pub rests_contained : RestsAreContained
-unfolding rests
-rests_contained r d =
-    cond_both (nat_eq d 0) None (Some (rests r d)) (ContainsRests r d)
-    (λ e. eqb-true d 0 e)
-    (λ e v w hv hw. rest_of_within r d v w e hv hw)
+use Rattle.camac_range.specs.Laws.{HasNumber, IsLeft, IsInBoth, Operator, IsValueWithin, ContainsValues, IsExact, ContainsRests, SumsAreExact, DifferencesAreExact, MeetIsWhatIsInBoth, OppositeIsNot, TurnedIsSwapped}
+use Rattle.camac_range.proofs.Quotients.{quotients_exact, rests_contained}
 
 pub sums_exact : SumsAreExact
 sums_exact = search rules
@@ -152,6 +36,16 @@ contains_values operator r s i o e h = (subst (IsExact operator r s) e h).contai
 pub sum_within : (r s i : Interval) (v w : ℕ) → add r s ≡ Some i → IsWithin r v → IsWithin s w → IsValueWithin i (sum_of v w)
 sum_within r s i v w e hv hw =
     contains_values sum_of r s i (add r s) e (sums_exact r s (has_number r v hv) (has_number s w hw)) v w hv hw
+
+itself : (d : ℕ) → IsWithin (only d) d
+itself d = record { low = omega arith; high = omega arith }
+
+pub quotient_within : (r i : Interval) (d v : ℕ) → div r d ≡ Some i → IsWithin r v → IsValueWithin i (quotient_of v d)
+quotient_within r i d v e hv =
+    contains_values quotient_of r (only d) i (div r d) e (quotients_exact r d (has_number r v hv)) v d hv (itself d)
+
+pub rest_within : (r i : Interval) (d v : ℕ) → rem r d ≡ Some i → IsWithin r v → IsValueWithin i (rest_of v d)
+rest_within r i d v e hv = subst (ContainsRests r d) e (rests_contained r d) v d hv (itself d)
 
 -- what a comparison or a meet leaves: a number, and it is in the interval
 abbrev pub IsKept : Option Interval → ℕ → Type 0

@@ -1,2 +1,3 @@
 pub mod Transfers
+pub mod Adding
 pub mod Statements

@@ -24,7 +24,7 @@ use Rattle.camac_tokens.specs.Fault.{Fault, AnswersList}
 use Rattle.camac_tokens.specs.Words.{Spelling, spelled_in, keyword, pair_signs, single_signs}
 use Rattle.camac_tokens.specs.Scanning.{is_name_byte, is_blank, is_no_line_feed, decimal_value, keyword_or, number_or_fault, pair_at, pair_or_single, start_of, wrong, spot_at, tokens_from, tokens_of}
 use Rattle.camac_tokens.proofs.Scans.{size, added, line_feeds, with_all, start_step}
-use Rattle.camac_tokens.specs.Broken.{begins, IsRun, IsWord, IsName, IsKeyword, IsNumber, IsSign, IsGap, Piece, IsPiece, joined, token_at, tokens_in, ArePieces, IsCut, HasTokens}
+use Rattle.camac_tokens.specs.Cut.{begins, IsRun, IsWord, IsName, IsKeyword, IsNumber, IsSign, IsGap, Piece, IsPiece, joined, token_at, tokens_in, ArePieces, IsCut, HasTokens}
 
 -- ---- bytes
 

@@ -3,5 +3,6 @@ pub mod Rules
 pub mod Fault
 pub mod Start
 pub mod Scanning
+pub mod Cut
 pub mod Left
 pub mod Broken

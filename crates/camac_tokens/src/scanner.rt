@@ -5,7 +5,7 @@ ghost use Rattle.std.specs.Char.{is_ascii_digit};
 ghost use Rattle.camac_tokens.specs.declared.token.Token.{Token};
 ghost use Rattle.camac_tokens.specs.Words.{keyword};
 ghost use Rattle.camac_tokens.specs.Scanning.{is_name_byte, is_blank, is_no_line_feed, decimal_value, keyword_or, number_or_fault, pair_at, single_at, pair_or_single, start_of, wrong, line_number, tokens_of};
-ghost use Rattle.camac_tokens.specs.Broken.{IsCut, HasTokens};
+ghost use Rattle.camac_tokens.specs.Cut.{IsCut, HasTokens};
 ghost use Rattle.camac_tokens.specs.Fault.{AnswersList};
 
 use crate::fault::TextFault;

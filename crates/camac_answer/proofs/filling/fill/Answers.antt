@@ -1,6 +1,6 @@
 use Rattle.std.proofs.Common.{◌≡◌, ◌≤◌, ◌-◌, ◌∙◌, length, arith, rules}
 use Rattle.std.proofs.Math.Bool.{or-false}
-use Rattle.camac_answer.proofs.Readings.{filled, same_length}
+use Rattle.camac_answer.proofs.Filled.{filled, same_length}
 use Rattle.camac_answer.proofs.filling.fill.Goals as goal
 
 pub pieces-preserved : goal.pieces-preserved

@@ -1,4 +1,4 @@
-use Rattle.camac_tokens.proofs.Broken.{answer_cut}
+use Rattle.camac_tokens.proofs.Cuts.{answer_cut}
 use Rattle.camac_tokens.proofs.Uncut.{answer_only}
 use Rattle.camac_tokens.proofs.scanner.tokens.Goals as goal
 

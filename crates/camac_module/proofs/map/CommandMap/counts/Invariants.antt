@@ -1,6 +1,7 @@
 use Rattle.std.proofs.Common.{◌≡◌, ◌≤◌, ◌*◌, take}
 use Rattle.std.specs.List.{sum_by}
-use Rattle.camac_module.specs.Entry.{count_commands, count_probes, entries_of}
+use Rattle.camac_module.specs.Entry.{count_commands, count_probes}
+use Rattle.camac_module.specs.Row.{entries_of}
 use Rattle.camac_module.proofs.map.CommandMap.counts.Given as goal
 
 abbrev pub invariant-rows : goal.invariant-rows

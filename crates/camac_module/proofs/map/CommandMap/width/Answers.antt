@@ -1,6 +1,6 @@
 use Rattle.std.proofs.Common.{◌<◌, sym, ◌∙◌, ap, length, option_map, get_or, None, []}
 use Rattle.std.proofs.lemmas.List.{get_or-map}
-use Rattle.camac_module.specs.Entry.{entries_of}
+use Rattle.camac_module.specs.Row.{entries_of}
 use Rattle.camac_module.proofs.Entries.{width-if_some}
 use Rattle.camac_module.proofs.map.CommandMap.width.Goals as goal
 
