@@ -47,7 +47,7 @@ commands = [ { f = 0, a = 0, width = 12 } ]
 number = 1
 station = [ { n = 5, type = "ADC", gl = 3 } ]
 '''
-ARCHIVE_BYTES = 1_400_000
+ARCHIVE_BYTES = 1_300_000
 NEEDED = {"malloc", "realloc", "free", "memcpy", "memmove", "memset"}
 ESONE = """
 void cdreg(int *ext, int b, int c, int n, int a);
