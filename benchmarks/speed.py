@@ -242,9 +242,10 @@ def measured(case, programs, best):
         return [len(case.text)] + [number for call, taken in zip(calls, times) for number in (min(taken), peak(call, room), statistics.median(taken))]
 
 
-def instructions(words):
-    """How many instructions one call takes."""
-    said = subprocess.run(["valgrind", "--tool=callgrind", "--callgrind-out-file=/dev/null", *words], stdout=subprocess.DEVNULL, stderr=subprocess.PIPE, text=True)
+def instructions(words, given=None):
+    """How many instructions one call takes; `given` is its standard input."""
+    valgrind = ["valgrind", "--tool=callgrind", "--callgrind-out-file=/dev/null", *words]
+    said = subprocess.run(valgrind, stdin=given, stdout=subprocess.DEVNULL, stderr=subprocess.PIPE, text=True)
     return int(re.search(r"Collected : (\d+)", said.stderr)[1])
 
 

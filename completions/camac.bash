@@ -1,4 +1,4 @@
-# Completion of camac for bash.
+# Completion of camac and of the other commands for bash.
 
 # Sets `words`, the words of the line up to the one that is completed: bash also cuts a word before `@`, though no blank is there.
 _camac_words() {
@@ -72,3 +72,42 @@ _camac_file() {
 }
 
 complete -F _camac camac
+
+_camac_commands() {
+  local word=${COMP_WORDS[COMP_CWORD]} command=${COMP_WORDS[0]##*/} options= offered=@sample at
+  COMPREPLY=()
+  case $command:${COMP_WORDS[COMP_CWORD - 1]} in
+  camac-check:--format)
+    mapfile -t COMPREPLY < <(compgen -W 'text json github sarif' -- "$word")
+    return
+    ;;
+  esac
+  case $command in
+  camac-check) options='--help --format --json --keeps --strict --version --write -h' ;;
+  camac-fmt) options='--check --help -h' offered= ;;
+  camac-report) options='--bins --every --gate --help --out --over --overwrite --pair --region --survey --words --write-record -h -o' ;;
+  camac-survey) options='--also --driver --driver-test --empty --help --keep --only --out --overwrite --wiring -h -o' ;;
+  esac
+  case $word in
+  -*)
+    mapfile -t COMPREPLY < <(compgen -W "$options" -- "$word")
+    return
+    ;;
+  esac
+  # The plan is the first word that is no option.
+  for ((at = 1; at < COMP_CWORD; at++)); do
+    case ${COMP_WORDS[at]} in
+    --format) ((at++)) ;;
+    -*) ;;
+    *) break ;;
+    esac
+  done
+  ((at == COMP_CWORD)) || offered=
+  [ "$command:${COMP_WORDS[COMP_CWORD - 1]}" = camac-survey:--driver ] && offered=mock
+  mapfile -t COMPREPLY < <(compgen -W "$offered" -- "$word")
+  compopt -o filenames 2>/dev/null
+  mapfile -t -O "${#COMPREPLY[@]}" COMPREPLY < <(compgen -f -- "$word")
+}
+
+complete -F _camac_commands camac-check camac-fmt camac-report camac-survey
+complete -W '--help -h' camac-lsp

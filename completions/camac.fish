@@ -1,4 +1,4 @@
-# Completion of camac for fish.
+# Completion of camac and of the other commands for fish.
 
 # Whether the word that is completed is at this place behind one of these commands.
 function __camac_at -a place
@@ -31,3 +31,44 @@ complete -c camac -n '__camac_at 1 help; or __camac_at 2 help' -f
 complete -c camac -n '__camac_at 1 help' -a 'plan check explain bounds costs tell response run drive events help'
 complete -c camac -n '__camac_at 1 plan check explain bounds costs tell response run drive' -a @sample -d 'the built-in plan'
 complete -c camac -n '__camac_at 1 plan check explain bounds costs tell response run events; or __camac_at 2 check explain bounds costs tell response run; or __camac_at 3 run' -a @in -d 'standard input'
+
+complete -c camac-check -s h -l help -d 'Print help'
+complete -c camac-check -l version -d 'whether what judges is proved'
+complete -c camac-check -l format -x -a 'text json github sarif' -d 'what is printed'
+complete -c camac-check -l json -d '--format json'
+complete -c camac-check -l strict -d 'a warning is status 1, too'
+complete -c camac-check -l keeps -d 'proposes what the loops of a refused script need'
+complete -c camac-check -l write -d 'first puts the least headings into each script; with --keeps what loops need, too'
+complete -c camac-check -n 'test (count (commandline -opc)) -eq 1' -a @sample -d 'the built-in plan'
+
+complete -c camac-fmt -s h -l help -d 'Print help'
+complete -c camac-fmt -l check -d 'writes nothing, and names the scripts whose layout is another one'
+
+complete -c camac-lsp -f
+complete -c camac-lsp -s h -l help -d 'Print help'
+
+complete -c camac-report -s h -l help -d 'Print help'
+complete -c camac-report -l every -x -d 'how soon a module calls again: SERVICE=CYCLES'
+complete -c camac-report -l write-record -r -F -d 'a file for the record of the run'
+complete -c camac-report -l survey -r -F -d 'what camac-survey found'
+complete -c camac-report -l words -r -F -d 'what the words of events are'
+complete -c camac-report -l pair -x -d 'two numbers of an event against each other: ACROSS UP'
+complete -c camac-report -l gate -x -d 'only events in which NAME has such a number: NAME LOW..HIGH'
+complete -c camac-report -l region -x -d 'measures a region of a spectrum: NAME LOW..HIGH'
+complete -c camac-report -l over -r -F -d 'another run, whose spectra are drawn over these'
+complete -c camac-report -l bins -x -d 'the most bins of a spectrum, and of a pair'
+complete -c camac-report -l overwrite -d 'replaces a file that another command made'
+complete -c camac-report -s o -l out -r -F -d 'the file to write'
+complete -c camac-report -n 'test (count (commandline -opc)) -eq 1' -a @sample -d 'the built-in plan'
+
+complete -c camac-survey -s h -l help -d 'Print help'
+complete -c camac-survey -l driver -r -F -a mock -d 'the driver of the crates'
+complete -c camac-survey -l only -x -d 'sends these functions alone: F8,F27'
+complete -c camac-survey -l also -x -d 'sends these functions, too: F2,F10'
+complete -c camac-survey -l empty -d 'asks the stations without a module, too'
+complete -c camac-survey -l wiring -d 'raises each look-at-me, and compares the bits that come'
+complete -c camac-survey -l driver-test -x -d 'tests the driver at a register: CRATE,STATION,SUB_ADDRESS'
+complete -c camac-survey -l keep -r -F -d 'a folder for the scripts and their answers'
+complete -c camac-survey -l overwrite -d 'replaces a file that another command made'
+complete -c camac-survey -s o -l out -r -F -d 'a file of what was found'
+complete -c camac-survey -n 'test (count (commandline -opc)) -eq 1' -a @sample -d 'the built-in plan'

@@ -10,8 +10,10 @@ import unittest
 from support.program import called, run_tests
 from support.rows import FILE_ONE, FILE_TWO, SAMPLE, STRAIGHT_LINE
 
-# A refusal with a whole explanation: the line of a script, a sentence of the case, and the texts of the rule.
-EXPLANATION = re.compile(rb"\Arefused ([PSLE]\d+)(?: line (\d+))?: [^\n]+\n(?(2) *\2 \| [^\n]*\n(?: *\| \s*\^\n)?)[^\n]*[.?`]\nWhy: [^\n]+\nFix: [^\n]+\nMore: docs/REFUSALS\.md, \1\n\Z")
+# A refusal with a whole explanation: the line of a script, a sentence of the case, and the texts of the rule or a hint.
+SOURCE = rb"\Arefused ([PSLE]\d+)(?: line (\d+))?: [^\n]+\n(?(2) *\2 \| [^\n]*\n(?: *\| \s*\^\n)?)"
+TOLD = rb"(?:[^\n]*[.?`]\nWhy: [^\n]+\nFix: [^\n]+|(?:[^\n]*[.?`]\n)?Fix: [^\n]+)\nMore: docs/REFUSALS\.md, \1\n"
+EXPLANATION = re.compile(SOURCE + TOLD + rb"(?:(?:Set|Plan|Waits): [^\n]+\n)*\Z")
 
 BYTES = (0x00, 0x0A, 0x21, 0x7B, 0xFF)
 

@@ -62,82 +62,85 @@ service adc within 3 cycles event 0 words {
 }
 """
 
+# What is told beside E12, since crates of `@sample` have waits.
+WAITS = "\nWaits: auxiliary controllers may take up to the crate's `waits` before each of our cycles, and theirs count; several in one `lock` wait once."
+
 # A mistake, a script with it, the rule and the line, and what is said of the case.
 MISTAKES = [
-    ("a letter too many in a statement", service("putt v"), "S5", 4, "The name `putt` is not declared above as a variable. Did you mean `put`?"),
-    ("two letters exchanged in a statement", service("cfas 0 r -> v"), "S5", 4, "The name `cfas` is not declared above as a variable. Did you mean `cfsa`?"),
-    ("a statement in upper case", service("PUT v"), "S5", 4, "The name `PUT` is not declared above as a variable. Did you mean `put`?"),
-    ("a letter missing in a heading", service(heading="withn 3 cycles event 1 words"), "S2", 3, "Found `withn`; expected `within`. Did you mean `within`?"),
-    ("a heading in upper case", service(heading="within 3 CYCLES event 1 words"), "S2", 3, "Found `CYCLES`; expected `cycles`. Did you mean `cycles`?"),
-    ("a heading without event", service(heading="within 3 cycles"), "S2", 3, "Found `{`; expected `event`. Write `service NAME within C cycles event W words { .. }`."),
-    ("a declaration mistyped after var", "cdlam adc 1 1 5 12\nvar v\nservcie adc within 3 cycles event 1 words { }\n", "S4", 3, "The name `adc` is taken: it is declared on line 1 as a LAM. Did you mean `service` instead of `servcie`?"),
-    ("a declaration mistyped, its LAM too", "cdlam adc 1 1 5 12\nvar v\nservcie acd within 3 cycles event 1 words { }\n", "S2", 3, "Found `within`; expected a declaration or a name. Did you mean `service` instead of `servcie`?"),
-    ("a declaration mistyped", "cdlam adc 1 1 5 12\nservcie adc within 3 cycles event 1 words { }\n", "S2", 2, "Found `servcie`; expected a declaration. Did you mean `service`?"),
-    ("no closing brace", service("put v")[:-2], "S2", 5, "Found the end of the script; expected a statement, an operator or `}`. The `{` of line 3 is still open."),
-    ("no closing brace before the next service", service("lock 1 {", "}")[:-2] + "service adc within 3 cycles event 1 words { }\n", "S2", 6, "`service` belongs outside of services and procedures, and the `{` of line 3 is still open."),
+    ("a letter too many in a statement", service("putt v"), "S5", 4, "The name `putt` is not declared above as a variable.\nFix: Did you mean `put`?"),
+    ("two letters exchanged in a statement", service("cfas 0 r -> v"), "S5", 4, "The name `cfas` is not declared above as a variable.\nFix: Did you mean `cfsa`?"),
+    ("a statement in upper case", service("PUT v"), "S5", 4, "The name `PUT` is not declared above as a variable.\nFix: Did you mean `put`?"),
+    ("a letter missing in a heading", service(heading="withn 3 cycles event 1 words"), "S2", 3, "Found `withn`; expected `within`.\nFix: Did you mean `within`?"),
+    ("a heading in upper case", service(heading="within 3 CYCLES event 1 words"), "S2", 3, "Found `CYCLES`; expected `cycles`.\nFix: Did you mean `cycles`?"),
+    ("a heading without event", service(heading="within 3 cycles"), "S2", 3, "Found `{`; expected `event`.\nFix: Write `service NAME within C cycles event W words { .. }`."),
+    ("a declaration mistyped after var", "cdlam adc 1 1 5 12\nvar v\nservcie adc within 3 cycles event 1 words { }\n", "S4", 3, "The name `adc` is taken: it is declared on line 1 as a LAM.\nFix: Did you mean `service` instead of `servcie`?"),
+    ("a declaration mistyped, its LAM too", "cdlam adc 1 1 5 12\nvar v\nservcie acd within 3 cycles event 1 words { }\n", "S2", 3, "Found `within`; expected a declaration or a name.\nFix: Did you mean `service` instead of `servcie`?"),
+    ("a declaration mistyped", "cdlam adc 1 1 5 12\nservcie adc within 3 cycles event 1 words { }\n", "S2", 2, "Found `servcie`; expected a declaration.\nFix: Did you mean `service`?"),
+    ("no closing brace", service("put v")[:-2], "S2", 5, "Found the end of the script; expected a statement, an operator or `}`.\nFix: The `{` of line 3 is still open."),
+    ("no closing brace before the next service", service("lock 1 {", "}")[:-2] + "service adc within 3 cycles event 1 words { }\n", "S2", 6, "Fix: `service` belongs outside of services and procedures, and the `{` of line 3 is still open."),
     ("a closing brace too many", service("put v") + "}\n", "S2", 6, "Found `}`; expected a declaration."),
-    ("no opening brace", service("if v < 3", "  put v", "}"), "S2", 5, "Found `put`; expected an operator, `{` or `and`. Write `if CONDITION { .. }`."),
-    ("no turns", service("k = 5", "while k > 0 { k = k - 1 }"), "S2", 5, "Found `{`; expected an operator, `turns` or `and`. Write `while CONDITION turns N by VARIABLE { .. }`."),
-    ("no by", service("k = 5", "while k > 0 turns 5 { k = k - 1 }"), "S2", 5, "Found `{`; expected `by`. Write `while CONDITION turns N by VARIABLE { .. }`."),
-    ("hexadecimal digits", service("v = 0x10"), "S5", 4, "The name `x10` is not declared above as a variable. Write numbers in decimal digits, as `255` for `0xff`."),
-    ("hexadecimal digits in a heading", service(heading="within 0xff cycles event 1 words"), "S2", 3, "Found `xff`; expected `cycles`. Write numbers in decimal digits, as `255` for `0xff`."),
-    ("a semicolon", service("put v;"), "S1", 4, "camac has no `;`; write statements without a sign at their end."),
-    ("conditions joined by &&", service("if v < 3 && q { }"), "S1", 4, "camac has no `&&`; write `and`."),
-    ("a condition turned by !", service("if !q { }"), "S1", 4, "camac has no `!`; write `not` before a comparison or a flag, and `#` before a comment."),
-    ("a byte order mark", "\xef\xbb\xbfvar v\n", "S1", 1, "The character `\xef\xbb\xbf` begins no token. It is a byte order mark (BOM), which cannot be seen: save the script without it."),
-    ("a declared word before a byte", service("write = 3;", more=" write"), "S1", 4, "camac has no `;`; write statements without a sign at their end."),
-    ("a value without its name", service("put v k", "cclc adc"), "S2", 5, "Found `cclc`; expected `=`. Write `VARIABLE = VALUE`."),
-    ("conditions joined by or", service("if q or x { }"), "S2", 4, "camac has no `or`; write one `if` into the `else` of the other, or a variable that both set."),
-    ("= to compare", service("if v = 3 { }"), "S2", 4, "Found `=`; expected an operator or a comparison. Did you mean `==`?"),
-    ("== to set a variable", service("v == 3"), "S2", 4, "Found `==`; expected `=`. Did you mean `=`?"),
-    ("+= to add", service("v += 1"), "S2", 4, "camac has no `+=`; write the whole, as in `v = v + 1`."),
-    ("else if", service("if q { } else if x { }"), "S2", 4, "Found `if`; expected `{`. Write the block of `else` in braces; an `if` may be in it."),
-    ("a number below 0", service("v = -1"), "S2", 4, "Found `-`; expected an expression. There are no numbers below 0."),
-    ("division by a variable", service("v = v / k"), "S2", 4, "Found `k`; expected a number. A divisor is a number of at least 1."),
-    ("division by 0", service("v = v / 0"), "S2", 4, "Found `0`. A divisor is a number of at least 1."),
-    ("two points in a for", service("for i = 1 .. 3 { }"), "S2", 4, "Found `..`; expected an operator or `to`. Did you mean `to`?"),
-    ("no block behind two numbers", service("for i = 1 to 3 put i"), "S2", 4, "Found `put`; expected an operator, `{`, `keep` or `each`. Write `for VARIABLE = VALUE to VALUE { .. }` or `for VARIABLE = NUMBER to NUMBER each { .. }`."),
-    ("no block behind a variable", service("for i = 1 to k put i"), "S2", 4, "Found `put`; expected an operator, `{` or `keep`. Write `for VARIABLE = VALUE to VALUE { .. }` or `for VARIABLE = NUMBER to NUMBER each { .. }`."),
-    ("no block behind each", service("for i = 1 to 3 each put i"), "S2", 4, "Found `put`; expected `{`. Write `for VARIABLE = VALUE to VALUE { .. }` or `for VARIABLE = NUMBER to NUMBER each { .. }`."),
-    ("each behind a variable", service("for i = 1 to k each { }"), "S2", 4, "Found `each`; expected an operator, `{` or `keep`. Before `each` stand two numbers, and no `keep`: `for i = 0 to 11 each { .. }`."),
-    ("each behind brackets", service("for i = (1) to 3 each { }"), "S2", 4, "Found `each`; expected an operator, `{` or `keep`. Before `each` stand two numbers, and no `keep`: `for i = 0 to 11 each { .. }`."),
-    ("each behind a sum", service("for i = 1 to 1 + 2 each { }"), "S2", 4, "Found `each`; expected an operator, `{` or `keep`. Before `each` stand two numbers, and no `keep`: `for i = 0 to 11 each { .. }`."),
-    ("each behind a keep", service("for i = 1 to 3 keep k in 0..3 each { }"), "S2", 4, "Found `each`; expected `{` or `,`. Before `each` stand two numbers, and no `keep`: `for i = 0 to 11 each { .. }`."),
-    ("a keep behind each", service("for i = 1 to 3 each keep k in 0..3 { }"), "S2", 4, "Found `keep`; expected `{`. Write `for VARIABLE = VALUE to VALUE { .. }` or `for VARIABLE = NUMBER to NUMBER each { .. }`."),
-    ("each in upper case", service("for i = 1 to 3 EACH { }"), "S2", 4, "Found `EACH`; expected an operator, `{`, `keep` or `each`. Did you mean `each`?"),
-    ("each of a while", service("k = 5", "while k > 0 turns 5 by k each { k = k - 1 }"), "S2", 5, "Found `each`; expected `{` or `keep`. Write `while CONDITION turns N by VARIABLE { .. }`."),
-    ("half an arrow", service("cdreg r 1 1 5 0", "cfsa 0 r > v"), "S2", 5, "Found `>`; expected a statement, `}`, `->` or `<-`. Did you mean `->`?"),
+    ("no opening brace", service("if v < 3", "  put v", "}"), "S2", 5, "Found `put`; expected an operator, `{` or `and`.\nFix: Write `if CONDITION { .. }`."),
+    ("no turns", service("k = 5", "while k > 0 { k = k - 1 }"), "S2", 5, "Found `{`; expected an operator, `turns` or `and`.\nFix: Write `while CONDITION turns N by VARIABLE { .. }`."),
+    ("no by", service("k = 5", "while k > 0 turns 5 { k = k - 1 }"), "S2", 5, "Found `{`; expected `by`.\nFix: Write `while CONDITION turns N by VARIABLE { .. }`."),
+    ("hexadecimal digits", service("v = 0x10"), "S5", 4, "The name `x10` is not declared above as a variable.\nFix: Write numbers in decimal digits, as `255` for `0xff`."),
+    ("hexadecimal digits in a heading", service(heading="within 0xff cycles event 1 words"), "S2", 3, "Found `xff`; expected `cycles`.\nFix: Write numbers in decimal digits, as `255` for `0xff`."),
+    ("a semicolon", service("put v;"), "S1", 4, "Fix: camac has no `;`; write statements without a sign at their end."),
+    ("conditions joined by &&", service("if v < 3 && q { }"), "S1", 4, "Fix: camac has no `&&`; write `and`."),
+    ("a condition turned by !", service("if !q { }"), "S1", 4, "Fix: camac has no `!`; write `not` before a comparison or a flag, and `#` before a comment."),
+    ("a byte order mark", "\xef\xbb\xbfvar v\n", "S1", 1, "The character `\xef\xbb\xbf` begins no token.\nFix: It is a byte order mark (BOM), which cannot be seen: save the script without it."),
+    ("a declared word before a byte", service("write = 3;", more=" write"), "S1", 4, "Fix: camac has no `;`; write statements without a sign at their end."),
+    ("a value without its name", service("put v k", "cclc adc"), "S2", 5, "Found `cclc`; expected `=`.\nFix: Write `VARIABLE = VALUE`."),
+    ("conditions joined by or", service("if q or x { }"), "S2", 4, "Fix: camac has no `or`; write one `if` into the `else` of the other, or a variable that both set."),
+    ("= to compare", service("if v = 3 { }"), "S2", 4, "Found `=`; expected an operator or a comparison.\nFix: Did you mean `==`?"),
+    ("== to set a variable", service("v == 3"), "S2", 4, "Found `==`; expected `=`.\nFix: Did you mean `=`?"),
+    ("+= to add", service("v += 1"), "S2", 4, "Fix: camac has no `+=`; write the whole, as in `v = v + 1`."),
+    ("else if", service("if q { } else if x { }"), "S2", 4, "Found `if`; expected `{`.\nFix: Write the block of `else` in braces; an `if` may be in it."),
+    ("a number below 0", service("v = -1"), "S2", 4, "Found `-`; expected an expression.\nFix: There are no numbers below 0."),
+    ("division by a variable", service("v = v / k"), "S2", 4, "Found `k`; expected a number.\nFix: A divisor is a number of at least 1."),
+    ("division by 0", service("v = v / 0"), "S2", 4, "Found `0`.\nFix: A divisor is a number of at least 1."),
+    ("two points in a for", service("for i = 1 .. 3 { }"), "S2", 4, "Found `..`; expected an operator or `to`.\nFix: Did you mean `to`?"),
+    ("no block behind two numbers", service("for i = 1 to 3 put i"), "S2", 4, "Found `put`; expected an operator, `{`, `keep` or `each`.\nFix: Write `for VARIABLE = VALUE to VALUE { .. }` or `for VARIABLE = NUMBER to NUMBER each { .. }`."),
+    ("no block behind a variable", service("for i = 1 to k put i"), "S2", 4, "Found `put`; expected an operator, `{` or `keep`.\nFix: Write `for VARIABLE = VALUE to VALUE { .. }` or `for VARIABLE = NUMBER to NUMBER each { .. }`."),
+    ("no block behind each", service("for i = 1 to 3 each put i"), "S2", 4, "Found `put`; expected `{`.\nFix: Write `for VARIABLE = VALUE to VALUE { .. }` or `for VARIABLE = NUMBER to NUMBER each { .. }`."),
+    ("each behind a variable", service("for i = 1 to k each { }"), "S2", 4, "Found `each`; expected an operator, `{` or `keep`.\nFix: Before `each` stand two numbers, and no `keep`: `for i = 0 to 11 each { .. }`."),
+    ("each behind brackets", service("for i = (1) to 3 each { }"), "S2", 4, "Found `each`; expected an operator, `{` or `keep`.\nFix: Before `each` stand two numbers, and no `keep`: `for i = 0 to 11 each { .. }`."),
+    ("each behind a sum", service("for i = 1 to 1 + 2 each { }"), "S2", 4, "Found `each`; expected an operator, `{` or `keep`.\nFix: Before `each` stand two numbers, and no `keep`: `for i = 0 to 11 each { .. }`."),
+    ("each behind a keep", service("for i = 1 to 3 keep k in 0..3 each { }"), "S2", 4, "Found `each`; expected `{` or `,`.\nFix: Before `each` stand two numbers, and no `keep`: `for i = 0 to 11 each { .. }`."),
+    ("a keep behind each", service("for i = 1 to 3 each keep k in 0..3 { }"), "S2", 4, "Found `keep`; expected `{`.\nFix: Write `for VARIABLE = VALUE to VALUE { .. }` or `for VARIABLE = NUMBER to NUMBER each { .. }`."),
+    ("each in upper case", service("for i = 1 to 3 EACH { }"), "S2", 4, "Found `EACH`; expected an operator, `{`, `keep` or `each`.\nFix: Did you mean `each`?"),
+    ("each of a while", service("k = 5", "while k > 0 turns 5 by k each { k = k - 1 }"), "S2", 5, "Found `each`; expected `{` or `keep`.\nFix: Write `while CONDITION turns N by VARIABLE { .. }`."),
+    ("half an arrow", service("cdreg r 1 1 5 0", "cfsa 0 r > v"), "S2", 5, "Found `>`; expected a statement, `}`, `->` or `<-`.\nFix: Did you mean `->`?"),
     ("a variable that is not declared", service("put w"), "S5", 4, "The name `w` is not declared above as a variable."),
-    ("a variable mistyped", service("put tiem", more=" time"), "S5", 4, "The name `tiem` is not declared above as a variable. Did you mean `time`?"),
-    ("a variable in upper case", service("put V"), "S5", 4, "The name `V` is not declared above as a variable. Did you mean `v`?"),
+    ("a variable mistyped", service("put tiem", more=" time"), "S5", 4, "The name `tiem` is not declared above as a variable.\nFix: Did you mean `time`?"),
+    ("a variable in upper case", service("put V"), "S5", 4, "The name `V` is not declared above as a variable.\nFix: Did you mean `v`?"),
     ("a register without cdreg", service("cfsa 0 r -> v"), "S5", 4, "The name `r` is not declared above as a register."),
     ("a service without its LAM", "service adc within 3 cycles event 1 words { }\n", "S5", 1, "The name `adc` is not declared above as a LAM."),
-    ("a procedure that is not there", procedure("call got(0)"), "S5", 9, "The name `got` is not declared above as a procedure. Did you mean `get`?"),
+    ("a procedure that is not there", procedure("call got(0)"), "S5", 9, "The name `got` is not declared above as a procedure.\nFix: Did you mean `get`?"),
     ("a variable of the script in a procedure", procedure("call get(0)", body="put v"), "S5", 6, "A procedure does not see the variable `v` of the script."),
-    ("no argument", procedure("call get()"), "S2", 9, "Found `)`. The procedure `get` takes 1 argument."),
-    ("an argument too many", procedure("call get(0, 1)"), "S2", 9, "Found `,`. The procedure `get` takes 1 argument."),
+    ("no argument", procedure("call get()"), "S2", 9, "Found `)`.\nFix: The procedure `get` takes 1 argument."),
+    ("an argument too many", procedure("call get(0, 1)"), "S2", 9, "Found `,`.\nFix: The procedure `get` takes 1 argument."),
     ("a name twice", "cdlam adc 1 1 5 12\nvar v v\n", "S4", 2, "The name `v` is taken: it is declared on line 2 as a variable."),
-    ("a word of the language as a name", "var on\n", "S2", 1, "`on` is a word of the language: choose another name."),
+    ("a word of the language as a name", "var on\n", "S2", 1, "Fix: `on` is a word of the language: choose another name."),
     ("a function above 31", service("cdreg r 1 1 5 0", "cfsa 42 r -> v"), "S3", 5, "The number `42` is above 31, the greatest allowed here."),
     ("the crate in the place of the branch", service("cdreg r 5 0 1 1"), "S7", 4, "The branch is `5` here, and there is only branch 1."),
-    ("a LAM without the branch", "cdlam adc 1 5 12\nvar v\n", "S2", 2, "Found `var`; expected a number. Write `cdlam NAME 1 CRATE STATION SUB_ADDRESS`."),
-    ("a register without the branch", service("cdreg r 1 5 0", "cfsa 0 r -> v"), "S2", 5, "Found `cfsa`; expected an expression or an operator. Write `cdreg REGISTER 1 CRATE STATION SUB_ADDRESS`."),
-    ("an address in a cycle", service("cfsa 0 1 1 5 0 -> v"), "S2", 4, "Found `1`; expected a name. Set a register to an address first, by `cdreg`."),
-    ("a call as in FORTRAN", service("cfsa(0, r, v, q)"), "S2", 4, "Found `(`; expected a number. Write `cfsa F REGISTER`, `cfsa F REGISTER -> VARIABLE` or `cfsa F REGISTER <- VALUE`."),
-    ("a value after the arrow of a read", service("cdreg r 1 1 6 0", "cfsa 16 r -> 1"), "S2", 5, "Found `1`; expected a name. A read sets a variable after `->`; a write has `<-` and a value."),
-    ("a register in the place of a variable", service("cdreg r 1 1 5 0", "put r"), "S5", 5, "The name `r` is declared on line 4 as a register; expected a variable. A register holds an address: `cfsa 0 r -> v` reads from it into `v`."),
-    ("a flag that is compared", service("if q = 1 { }"), "S2", 4, "Found `=`; expected `{` or `and`. Write a flag alone: `q`, or `not q`."),
-    ("a condition in brackets", service("if (v > 3) { }"), "S2", 4, "Found `>`; expected an operator or `)`. Brackets are for expressions, not for conditions."),
-    ("a flag in brackets", service("if (q) { }"), "S2", 4, "Found `q`; expected an expression. Brackets are for expressions, not for conditions."),
-    ("a crate in the place of a LAM", service("cclc 1"), "S2", 4, "Found `1`; expected a name. Write the name of a LAM here, which `cdlam` declares."),
-    ("a dash in a name", "cdlam my-adc 1 1 5 12\n", "S2", 1, "Found `-`; expected a number. A name has letters, digits and `_`, and no dash."),
-    ("a test with an arrow", service("ctlm adc -> v"), "S2", 4, "Found `->`; expected a statement or `}`. The answer is the flag `q`."),
-    ("an assignment outside", "cdlam adc 1 1 5 12\nvar v\nv = 1\n", "S4", 3, "The name `v` is taken: it is declared on line 2 as a variable. A statement belongs in the braces of a service or a procedure."),
-    ("a word of the event outside", "cdlam adc 1 1 5 12\nput 1\n", "S2", 2, "Found `put`; expected a declaration. A statement belongs in the braces of a service or a procedure."),
-    ("a lock in a procedure", procedure("call get(0)", body="lock 1 { }"), "S2", 6, "A procedure has no `lock`: put the `call` into one."),
+    ("a LAM without the branch", "cdlam adc 1 5 12\nvar v\n", "S2", 2, "Found `var`; expected a number.\nFix: Write `cdlam NAME 1 CRATE STATION SUB_ADDRESS`."),
+    ("a register without the branch", service("cdreg r 1 5 0", "cfsa 0 r -> v"), "S2", 5, "Found `cfsa`; expected an expression or an operator.\nFix: Write `cdreg REGISTER 1 CRATE STATION SUB_ADDRESS`."),
+    ("an address in a cycle", service("cfsa 0 1 1 5 0 -> v"), "S2", 4, "Found `1`; expected a name.\nFix: Set a register to an address first, by `cdreg`."),
+    ("a call as in FORTRAN", service("cfsa(0, r, v, q)"), "S2", 4, "Found `(`; expected a number.\nFix: Write `cfsa F REGISTER`, `cfsa F REGISTER -> VARIABLE` or `cfsa F REGISTER <- VALUE`."),
+    ("a value after the arrow of a read", service("cdreg r 1 1 6 0", "cfsa 16 r -> 1"), "S2", 5, "Found `1`; expected a name.\nFix: A read sets a variable after `->`; a write has `<-` and a value."),
+    ("a register in the place of a variable", service("cdreg r 1 1 5 0", "put r"), "S5", 5, "The name `r` is declared on line 4 as a register; expected a variable.\nFix: A register holds an address: `cfsa 0 r -> v` reads from it into `v`."),
+    ("a flag that is compared", service("if q = 1 { }"), "S2", 4, "Found `=`; expected `{` or `and`.\nFix: Write a flag alone: `q`, or `not q`."),
+    ("a condition in brackets", service("if (v > 3) { }"), "S2", 4, "Found `>`; expected an operator or `)`.\nFix: Brackets are for expressions, not for conditions."),
+    ("a flag in brackets", service("if (q) { }"), "S2", 4, "Found `q`; expected an expression.\nFix: Brackets are for expressions, not for conditions."),
+    ("a crate in the place of a LAM", service("cclc 1"), "S2", 4, "Found `1`; expected a name.\nFix: Write the name of a LAM here, which `cdlam` declares."),
+    ("a dash in a name", "cdlam my-adc 1 1 5 12\n", "S2", 1, "Found `-`; expected a number.\nFix: A name has letters, digits and `_`, and no dash."),
+    ("a test with an arrow", service("ctlm adc -> v"), "S2", 4, "Found `->`; expected a statement or `}`.\nFix: The answer is the flag `q`."),
+    ("an assignment outside", "cdlam adc 1 1 5 12\nvar v\nv = 1\n", "S4", 3, "The name `v` is taken: it is declared on line 2 as a variable.\nFix: A statement belongs in the braces of a service or a procedure."),
+    ("a word of the event outside", "cdlam adc 1 1 5 12\nput 1\n", "S2", 2, "Found `put`; expected a declaration.\nFix: A statement belongs in the braces of a service or a procedure."),
+    ("a lock in a procedure", procedure("call get(0)", body="lock 1 { }"), "S2", 6, "Fix: A procedure has no `lock`: put the `call` into one."),
     ("a procedure that calls itself", procedure("call get(0)", body="call get(0)"), "S5", 6, "The procedure `get` can be called only after its end."),
     ("a variable that is kept twice", service("for i = 1 to 3 keep k in 0..3, k in 0..3 { }"), "S4", 4, "The variable `k` is kept twice."),
-    ("an else mistyped after a block", service("if q { v = 1 } els { }"), "S5", 4, "The name `els` is not declared above as a variable. Did you mean `else`?"),
+    ("an else mistyped after a block", service("if q { v = 1 } els { }"), "S5", 4, "The name `els` is not declared above as a variable.\nFix: Did you mean `else`?"),
     ("an else after a loop", service("for i = 1 to 3 { v = 1 } else { }"), "S2", 4, "Found `else`; expected a statement or `}`."),
     ("a second else", service("if q { } else { v = 1 } else { }"), "S2", 4, "Found `else`; expected a statement or `}`."),
     ("a number of 2 to the power of 32", service("v = 4294967296"), "S3", 4, "The number `4294967296` is above 4294967295, the greatest of all."),
@@ -149,9 +152,9 @@ MISTAKES = [
     ("the wrong crate", "cdlam adc 1 2 5 12\n", "L1", 1, "The LAM `adc` is at crate 2, station 5, where the plan has no module."),
     ("a service on a station without bit", "cdlam reg 1 1 6 0\nservice reg within 3 cycles event 1 words { }\n", "L2", 2, "The LAM `reg` is at crate 1, station 6, which has no GL bit in the plan."),
     ("an event above the buffer", service(heading="within 3 cycles event 5000 words"), "L4", 3, "The event may have 5000 words, and the plan's buffer holds 4096."),
-    ("the wrong station", service("cdreg r 1 1 7 0", "cfsa 0 r -> v"), "E1", 5, "The plan has no module at crate 1, station 7."),
-    ("a crate that is not in the plan", service("cdreg r 1 3 5 0", "cfsa 0 r -> v"), "E1", 5, "The plan has no crate 3."),
-    ("a command that the module has not", service("cdreg r 1 1 5 0", "cfsa 2 r -> v"), "E2", 5, "The plan declares no F2 at crate 1, station 5, A0."),
+    ("the wrong station", service("cdreg r 1 1 7 0", "cfsa 0 r -> v"), "E1", 5, "The plan has no module at crate 1, station 7.\nSet: the `cdreg` of `r` is on line 4."),
+    ("a crate that is not in the plan", service("cdreg r 1 3 5 0", "cfsa 0 r -> v"), "E1", 5, "The plan has no crate 3.\nSet: the `cdreg` of `r` is on line 4."),
+    ("a command that the module has not", service("cdreg r 1 1 5 0", "cfsa 2 r -> v"), "E2", 5, "The plan declares no F2 at crate 1, station 5, A0.\nSet: the `cdreg` of `r` is on line 4."),
     ("a read without an arrow", service("cdreg r 1 1 5 0", "cfsa 0 r"), "E3", 5, "F0 reads, and the statement moves no data."),
     ("a counter below 0", service("k = k - 1"), "E4", 4, "The left of `-` may be 0, the right 1."),
     ("a value too wide", service("cdreg a 1 1 5 0", "cdreg r 1 1 6 0", "cfsa 0 a -> v", "cfsa 16 r <- v"), "E5", 7, "The value may be 4095, but has to fit in 8 bits."),
@@ -159,17 +162,17 @@ MISTAKES = [
     ("a loop that does not count", service("k = 5", "while k > 0 turns 5 by k { cclc adc }"), "E7", 5, "The body itself has to lower `k` once by a number, and nothing else in it may write `k`."),
     ("too few turns", service("k = 500", "while k > 0 turns 100 by k { k = k - 1 }"), "E10", 5, "The loop may take 500 turns, and 100 are allowed."),
     ("too few words", service("put 1", "put 2", heading="within 0 cycles event 1 words"), "E11", 3, "The service may keep 2 event words, its heading allows 1."),
-    ("the waits forgotten", service("for i = 1 to 10 { cclc adc }", heading="within 10 cycles event 0 words"), "E12", 3, "The service may take 30 dataway cycles, its heading allows 10."),
+    ("the waits forgotten", service("for i = 1 to 10 { cclc adc }", heading="within 10 cycles event 0 words"), "E12", 3, "The service may take 30 dataway cycles, its heading allows 10." + WAITS),
     ("a call of a crate that is not in the plan", service("cccz 2"), "E15", 4, "The crate is 2 here, which is not one crate of the plan."),
     ("a lock in a lock", service("lock 1 { lock 1 { } }"), "E15", 4, "Crate 1 is locked already."),
     ("a later part of an if", service(*READ_TWO, "if v <= 10 and 10 - v > 3 and 5 - k > 0 { }"), "E4", 7, "The left of `-` may be 5, the right 0 to 16777215."),
     ("a later part of a while", service(*READ_TWO, "i = 5", "while v >= 5 and v - 5 < 100 and k - 5 < 3 turns 5 by i { i = i - 1 }"), "E4", 8, "The left of `-` may be 0 to 16777215, the right 5."),
     ("a part after a not", service(*READ_TWO, "if not v < 5 and v - 5 < 100 and k - 7 < 3 { }"), "E4", 7, "The left of `-` may be 0 to 16777215, the right 7."),
-    ("a scan in one arm, a wrong function in the other", service(*COMPUTED, "if v > 3 { cdreg a 1 1 5 v", "cfmad 0 a b max 5 tally t } else {", "cfsa 9 r }"), "E2", 10, "The plan declares no F0 at crate 1, station 5, A16."),
-    ("a scan from past the last sub-address", service(*COMPUTED, "cfmad 0 a b max 5 tally t"), "E2", 9, "The plan declares no F0 at crate 1, station 5, A16."),
-    ("a sub-address far too great", service("cdreg r 1 1 5 20", "cfsa 0 r -> v"), "E2", 5, "The plan declares no F0 at crate 1, station 5, A20."),
-    ("a scan over sub-addresses without the command", service("cdreg a 1 1 5 0", "cdreg b 1 1 6 15", "cfmad 0 a b max 5 tally t"), "E2", 6, "The plan declares no F0 at crate 1, station 6, A1."),
-    ("a scan that begins past a station's last sub-address", service("cdreg a 1 1 4 16", "cdreg b 1 1 7 0", "cfmad 0 a b max 5 tally t"), "E1", 6, "The plan has no module at crate 1, station 7."),
+    ("a scan in one arm, a wrong function in the other", service(*COMPUTED, "if v > 3 { cdreg a 1 1 5 v", "cfmad 0 a b max 5 tally t } else {", "cfsa 9 r }"), "E2", 10, "The plan declares no F0 at crate 1, station 5, A16.\nSet: the `cdreg` of `a` is on line 9.\nPlan: F0 is at A0 A1 A2 A3 A4 A5 A6 A7 A8 A9 A10 A11 A12 A13 A14 A15."),
+    ("a scan from past the last sub-address", service(*COMPUTED, "cfmad 0 a b max 5 tally t"), "E2", 9, "The plan declares no F0 at crate 1, station 5, A16.\nSet: the `cdreg` of `a` is on line 7.\nPlan: F0 is at A0 A1 A2 A3 A4 A5 A6 A7 A8 A9 A10 A11 A12 A13 A14 A15."),
+    ("a sub-address far too great", service("cdreg r 1 1 5 20", "cfsa 0 r -> v"), "E2", 5, "The plan declares no F0 at crate 1, station 5, A20.\nSet: the `cdreg` of `r` is on line 4.\nPlan: F0 is at A0 A1 A2 A3 A4 A5 A6 A7 A8 A9 A10 A11 A12 A13 A14 A15."),
+    ("a scan over sub-addresses without the command", service("cdreg a 1 1 5 0", "cdreg b 1 1 6 15", "cfmad 0 a b max 5 tally t"), "E2", 6, "The plan declares no F0 at crate 1, station 6, A1.\nSet: the `cdreg` of `a` is on line 4.\nPlan: F0 is at A0."),
+    ("a scan that begins past a station's last sub-address", service("cdreg a 1 1 4 16", "cdreg b 1 1 7 0", "cfmad 0 a b max 5 tally t"), "E1", 6, "The plan has no module at crate 1, station 7.\nSet: the `cdreg` of `a` is on line 4."),
     ("a block write without a table", service("cdreg r 1 1 6 0", "cfubc 16 r max 3 tally t"), "E3", 5, "F16 writes, and the statement reads."),
     ("a difference of two words", service("cdreg r 1 1 5 0", "cfsa 0 r -> v", "cfsa 0 r -> k", "if v >= k { i = v - k }"), "E4", 7, "The left of `-` may be 0 to 4095, the right 0 to 4095."),
     ("a measure that falls by three", service("k = 30", "while k > 2 turns 9 by k { k = k - 3 }"), "E10", 5, "The loop may take 10 turns, and 9 are allowed."),
@@ -178,7 +181,7 @@ MISTAKES = [
     ("more than all each may judge", service("for i = 1 to 300 each {", "for k = 1 to 300 each { }", "}"), "E10", 4, "The `each` loops of the service judge 90600 statements and turns, and 65536 are allowed."),
     ("a for with too many turns", service("for i = 0 to 70000 { }"), "E10", 4, "The loop may take 70001 turns, and 65535 are allowed."),
     ("words past 64 bits", deep("put 1"), "E11", 3, "The service may keep more than 18446744073709551615 event words, its heading allows 100."),
-    ("cycles past 64 bits", deep("cclc adc"), "E12", 3, "The service may take more than 18446744073709551615 dataway cycles, its heading allows 100."),
+    ("cycles past 64 bits", deep("cclc adc"), "E12", 3, "The service may take more than 18446744073709551615 dataway cycles, its heading allows 100." + WAITS),
     ("steps past 64 bits", deep(""), "E18", 3, "The service may take more than 18446744073709551615 steps, and 4294967295 are allowed."),
     ("the second argument", TWO_PARAMETERS, "E21", 7, "Argument 2 may be 9, and `n` takes 1 to 8."),
     ("too few steps", procedure("call get(0)", numbers="within 3 cycles event 1 words steps 2"), "E18", 3, "The procedure may take 3 steps, its heading allows 2."),
@@ -189,10 +192,10 @@ MISTAKES = [
     ("a counted parameter beside a variable", beside("for n = 1 to 3 { n = i }"), "E17", 3, "A `for` around this line counts the variable `n`."),
     ("a near variable that a procedure does not see", beside("put conut"), "S5", 3, "The name `conut` is not declared above as a variable."),
     ("the second register of a scan", service("cdreg a 1 1 5 0", "cfmad 0 a b max 5 tally t"), "S5", 5, "The name `b` is not declared above as a register."),
-    ("a declaration in two blocks", service("if q {", "cdlam more 1 1 6 0", "}"), "S2", 5, "`cdlam` belongs outside of services and procedures, and the `{` of line 4 is still open."),
-    ("a lock mistyped", service("lok 1 { }"), "S5", 4, "The name `lok` is not declared above as a variable. Did you mean `lock`?"),
+    ("a declaration in two blocks", service("if q {", "cdlam more 1 1 6 0", "}"), "S2", 5, "Fix: `cdlam` belongs outside of services and procedures, and the `{` of line 4 is still open."),
+    ("a lock mistyped", service("lok 1 { }"), "S5", 4, "The name `lok` is not declared above as a variable.\nFix: Did you mean `lock`?"),
     ("a lock mistyped in a procedure", procedure("call get(0)", body="lok 1 { }"), "S5", 6, "The name `lok` is not declared above as a variable."),
-    ("a lock outside", "cdlam adc 1 1 5 12\nlock 1 { }\n", "S2", 2, "Found `lock`; expected a declaration. A statement belongs in the braces of a service or a procedure."),
+    ("a lock outside", "cdlam adc 1 1 5 12\nlock 1 { }\n", "S2", 2, "Found `lock`; expected a declaration.\nFix: A statement belongs in the braces of a service or a procedure."),
     ("a table too many", "".join(f"table g{n} = 1\n" for n in range(17)), "S6", 17, "The limit is passed at `table`: a script has at most 16 tables."),
     ("a word of a table too many", "table g = 0" + "\n1" * 1024 + "\n", "S6", 1025, "The limit is passed at `1`: a table has at most 1024 words."),
     ("a LAM too many", "".join(f"cdlam m{n} 1 1 5 12\n" for n in range(65)), "S6", 65, "The limit is passed at `cdlam`: a script has at most 64 LAMs."),
@@ -205,6 +208,9 @@ MISTAKES = [
     ("a declared name near a word", "cdlam adc 1 1 5 12\nvar out v\nservice adc within 3 cycles event 1 words {\n  v = out 3\n}\n", "S2", 4, "Found `3`; expected a statement, an operator or `}`."),
     ("an argument out of range", procedure("call get(12)"), "E21", 9, "Argument 1 may be 12, and `s` takes 0 to 11."),
 ]
+
+# What begins a line that is told beside a rule.
+BESIDE = ("Set: ", "Plan: ", "Waits: ")
 
 # Those of them that are refused behind another statement of the line, and where.
 INSIDE = {"a lock in a lock": "lock 1 { }", "a difference of two words": "i = v", "a counted parameter beside a variable": "n = i"}
@@ -262,7 +268,6 @@ FIXES = [
     ("a value that a loop forgets", service("cdreg r 1 1 6 0", "for i = 1 to 3 { cfsa 16 r <- k", "k = i }"), "bound the value by `%` or `if`. A loop forgets what its body writes: ", service("cdreg r 1 1 6 0", "for i = 1 to 3 keep k in 0..3 { cfsa 16 r <- k", "k = i }")),
     ("a word too wide", service("v = 16777216", "put v"), "bound the value by `% 16777216`, or by an `if` ", service("v = 16777216", "put v % 16777216")),
     ("a word that a loop forgets", service("for i = 1 to 3 { put k", "k = i }"), "bound the value by `% 16777216` or `if`. A loop forgets what its body writes: write `each` ", service("for i = 1 to 3 each { put k", "k = i }")),
-    ("a few cycles of a procedure", procedure("call get(0)", numbers="within 2 cycles event 1 words steps 3"), "write a larger number after `within`, as `camac bounds` prints it, or make fewer cycles.", procedure("call get(0)")),
     ("a few cycles", service("cclc adc", heading="within 2 cycles event 0 words"), "write a larger number after `within`", service("cclc adc", heading="within 3 cycles event 0 words")),
     ("cycles without end", deep("cclc adc"), "make fewer cycles, ", service("cclc adc")),
     ("a few steps", procedure("call get(0)", numbers="within 3 cycles event 1 words steps 2"), "write a larger number after `steps`", procedure("call get(0)")),
@@ -361,11 +366,16 @@ class Explain(Room):
         if found:
             self.assertTrue(source[mark.index("^") :].startswith(found[1]), (source, mark, said))
 
-    def assert_told(self, rule, why, fix, more):
-        """The last lines of an explanation have the texts of the page."""
-        self.assertEqual(why, f"Why: {told(rule)[0]}")
-        self.assertIn(fix.removeprefix("Fix: "), told(rule)[1])
+    def assert_told(self, rule, *lines, has_hint=False):
+        """The last lines of an explanation have the texts of the page; a hint takes the place of why and fix."""
+        *advice, more = lines
         self.assertEqual(more, f"More: docs/REFUSALS.md, {rule}")
+        if not has_hint:
+            why, fix = advice
+            self.assertEqual(why, f"Why: {told(rule)[0]}")
+            self.assertIn(fix.removeprefix("Fix: "), told(rule)[1])
+        else:
+            self.assertEqual(advice, [])
 
     def test_explanations(self):
         """Each rule has its row, whose case `check` refuses by the same first line."""
@@ -402,9 +412,9 @@ class Explain(Room):
                     self.assert_marked(source, rest.pop(0), said)
                 else:
                     self.assertEqual(rest.pop(0), "      | ".ljust(source.index(INSIDE.get(what, source[8:].lstrip()))) + "^")
-                sentence, *rest = rest
-                self.assertEqual(sentence, said)
-                self.assert_told(rule, *rest)
+                head = [it for it in said.split("\n") if not it.startswith(BESIDE)]
+                self.assertEqual([it for it in rest if it in head or it.startswith(BESIDE)], said.split("\n"))
+                self.assert_told(rule, *(it for it in rest if it not in said.split("\n")), has_hint=head[-1].startswith("Fix: "))
 
     def test_marks(self):
         """A refusal of a rule or of linking has its mark below what it refuses."""
@@ -438,7 +448,8 @@ class Explain(Room):
         for word in begin:
             with self.subTest(word=word):
                 wrong = word + "_"
-                self.assertEqual(self.explain(service(f"{wrong} 1"))[3], f"The name `{wrong}` is not declared above as a variable. Did you mean `{word}`?")
+                said = [f"The name `{wrong}` is not declared above as a variable.", f"Fix: Did you mean `{word}`?"]
+                self.assertEqual(self.explain(service(f"{wrong} 1"))[3:5], said)
 
     def test_absent(self):
         """The page shows the table of what the language does not have."""
@@ -452,16 +463,16 @@ class Explain(Room):
         self.assertEqual(part.split("|---|---|\n")[1].partition("\n\n")[0].splitlines(), shown)
 
     def test_forms(self):
-        """The tables of the page have the forms that are told, of each word that begins something."""
+        """The tables of both pages have the forms that are told, of each word that begins something."""
         source = (TOP / "crates/camac_explain_text_words/src/forms.rt").read_text()
         rows = re.findall(r'Keyword::(\w+),\s*"(.*?)"', source)
         self.assertEqual({word.lower() for word, _ in rows}, {*DECLARATIONS, *STATEMENTS, "table", "else"})
         for word, forms in rows:
             self.assertIn(word.lower(), forms.replace("`", "").split(), forms)
-        told = re.findall("`(.*?)`", "".join(forms for _, forms in rows) + re.search(r'ASSIGNMENT: &str = "(.*)"', source)[1])
+        told = sorted(re.findall("`(.*?)`", "".join(forms for _, forms in rows) + re.search(r'ASSIGNMENT: &str = "(.*)"', source)[1]))
         part = (TOP / "docs/LANGUAGE.md").read_text().partition("## Declarations")[2].partition("## What the language does not have")[0]
-        shown = re.findall("`(.*?)`", "".join(re.findall(r"(?m)^\| (`.*?`) \|", part)))
-        self.assertEqual(sorted(shown), sorted(told))
+        self.assertEqual(sorted(re.findall("`(.*?)`", "".join(re.findall(r"(?m)^\| (`.*?`) \|", part)))), told)
+        self.assertEqual(sorted(re.findall(r'(?m)^\.It Li "(.*)"$', (TOP / "man/camac-script.5").read_text())), told)
 
     def test_mistakes_in_plans(self):
         for what, plan, rule, said in plans.MISTAKES:
@@ -484,7 +495,7 @@ class Explain(Room):
         found = set()
         for what, script, fix, fixed in FIXES:
             with self.subTest(what=what):
-                lines = self.explain(script)
+                lines = [it for it in self.explain(script) if not it.startswith(BESIDE)]
                 self.assertEqual(lines[-2][: len(f"Fix: {fix}")], f"Fix: {fix}")
                 self.assertEqual(self.explain(fixed)[0], "accepted")
                 found.add(lines[-2].removeprefix("Fix: "))
@@ -504,9 +515,10 @@ class Explain(Room):
                     status, text = self.call("explain", "plan.toml")
                 else:
                     status, text = self.call("explain", "@sample", "@in", given=example)
-                first, *_, why, fix, more = text.splitlines()
+                first, *lines = [it for it in text.splitlines() if not it.startswith(BESIDE)]
                 self.assertEqual(status, 1)
-                self.assert_told(rule, why, fix, more)
+                has_hint = not lines[-3].startswith("Why: ")
+                self.assert_told(rule, *lines[-1 if has_hint else -3 :], has_hint=has_hint)
                 self.assertRegex(first, rf"^refused {rule}(?: line \d+)?: {re.escape(meaning)}$")
 
     def test_conditions(self):
@@ -595,7 +607,7 @@ class Explain(Room):
         """A fault at the end of a line of nearly 1 MB, with some 64,000 tokens: a search by parses of the text before it would take hours."""
         name = "a" * 32
         line = f"cdlam adc 1 1 5 12 var {name} service adc within 0 cycles event 0 words {{ " + f"{name} = {'+'.join([name] * 6)} " * 4000 + "put }"
-        self.assertEqual(self.explain(line)[3], "Found `}`; expected an expression. Write `put VALUE`.")
+        self.assertEqual(self.explain(line)[3:5], ["Found `}`; expected an expression.", "Fix: Write `put VALUE`."])
 
     def test_other_plans(self):
         (self.room / "plan.toml").write_text("buffer = 10\n[[crate]]\nnumber = 9\n")

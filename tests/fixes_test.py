@@ -97,75 +97,75 @@ class Refused:
 
     def fixes(self):
         """By kind, the edits of each fix that a program can apply."""
-        its, text = self.first, self.data[self.first.start : self.first.end].decode()
-        advice = " ".join(its.advice)
-        for fix in _of_refusal(self.judged, its):
+        first, text = self.first, self.data[self.first.start : self.first.end].decode()
+        advice = " ".join(first.advice)
+        for fix in _of_refusal(self.judged, first):
             if not fix.title.startswith("Write what helps"):
-                yield f"{its.code} {re.sub('`[^`]*`|[0-9]+', '..', fix.title)}", fix.edits
+                yield f"{first.code} {re.sub('`[^`]*`|[0-9]+', '..', fix.title)}", fix.edits
         yield from self.of_text(text, advice)
         yield from self.of_statement(text, advice)
         yield from self.of_ranges(text)
-        if "--keeps` finds" in advice and its.code in OF_LOOPS and self.is_of_a_loop():
+        if "--keeps` finds" in advice and first.code in OF_LOOPS and self.is_of_a_loop():
             found = propose(self.judge.file, self.data, self.judge.program)
             edits = tuple(edit for one in found.proposals for edit in one.edits)
             if edits:
-                yield f"{its.code} --keeps", edits
+                yield f"{first.code} --keeps", edits
 
     def of_text(self, text, advice):
         """What fixes a fault of the text."""
-        its = self.first
-        put = lambda new: (Edit(its.start, its.end, new),)
+        first = self.first
+        put = lambda new: (Edit(first.start, first.end, new),)
         if "remove the byte" in advice:
             yield "S1 remove the byte", put("")
-            yield "S1 begin a comment", (Edit(its.start, its.start, "#"),)
-        if its.code == "S3" and (most := re.search(r"(?:at most|above) (\d+)", its.sentence)):
+            yield "S1 begin a comment", (Edit(first.start, first.start, "#"),)
+        if first.code == "S3" and (most := re.search(r"(?:at most|above) (\d+)", first.sentence)):
             yield "S3 write a number in the range", put(most[1])
         if "choose another name" in advice and text.isidentifier():
             yield "S4 choose another name", put(FRESH)
-        if "declare it above" in advice and "as a variable" in its.sentence and not self.is_in_procedure():
+        if "declare it above" in advice and "as a variable" in first.sentence and not self.is_in_procedure():
             yield "S5 declare it above", (Edit(0, 0, f"var {text}\n"),)
-        if its.code == "S7":
+        if first.code == "S7":
             yield "S7 write 1", put("1")
 
     def of_statement(self, text, advice):
         """What fixes a statement."""
-        its = self.first
-        put = lambda new: (Edit(its.start, its.end, new),)
+        first = self.first
+        put = lambda new: (Edit(first.start, first.end, new),)
         if "as in `v + 4095 - w`" in advice:
             yield from self.of_difference(text)
         value = re.fullmatch(r"(put|cfsa \d+ \w+ <-|cssa \d+ \w+ <-) (.*)", text, re.S)
-        bits = 24 if its.code == "E16" else int((re.search(r"(\d+) bits?", its.sentence) or [0, 0])[1])
-        if its.code in ("E5", "E16") and "%" in advice and value and bits:
-            yield f"{its.code} bound the value by %", put(f"{value[1]} ({value[2]}) % {1 << bits}")
-        if its.code == "E6" and (name := re.search(r"`(\w+)`", its.sentence)) and (there := re.search(rb"cdreg %b 1 \d+ \d+ \d+" % name[1].encode(), self.data)):
-            yield "E6 set it before", (Edit(its.start, its.start, f"{there[0].decode()} "),)
-        if its.code == "E3" and (head := re.match(r"(cfsa|cssa) \d+ \w+", text)):
+        bits = 24 if first.code == "E16" else int((re.search(r"(\d+) bits?", first.sentence) or [0, 0])[1])
+        if first.code in ("E5", "E16") and "%" in advice and value and bits:
+            yield f"{first.code} bound the value by %", put(f"{value[1]} ({value[2]}) % {1 << bits}")
+        if first.code == "E6" and (name := re.search(r"`(\w+)`", first.sentence)) and (there := re.search(rb"cdreg %b 1 \d+ \d+ \d+" % name[1].encode(), self.data)):
+            yield "E6 set it before", (Edit(first.start, first.start, f"{there[0].decode()} "),)
+        if first.code == "E3" and (head := re.match(r"(cfsa|cssa) \d+ \w+", text)):
             if "without an arrow" in advice:
                 yield "E3 without an arrow", put(head[0])
             elif "write `-> v`" in advice:
                 yield "E3 write -> v", (Edit(0, 0, f"var {FRESH}\n"), *put(f"{head[0]} -> {FRESH}"))
-        if its.code == "E7" and (loop := re.compile(r"by (\w+)[^{]*\{([^{}]*)\}").match(self.data.decode(), self.data.find(b"by ", its.start))):
+        if first.code == "E7" and (loop := re.compile(r"by (\w+)[^{]*\{([^{}]*)\}").match(self.data.decode(), self.data.find(b"by ", first.start))):
             # It is lowered there in place of all that is done.
             yield "E7 lower it once", (Edit(*loop.span(2), f" {loop[1]} = {loop[1]} - 1 "),)
-        if its.code == "E14" and (has := re.search(r"the table has (\d+)", its.sentence)):
-            if most := re.compile(r"[^<>{}]*?\bmax\s+(\d+)\s+(?:limit|tally)").match(self.data.decode(), its.start):
+        if first.code == "E14" and (has := re.search(r"the table has (\d+)", first.sentence)):
+            if most := re.compile(r"[^<>{}]*?\bmax\s+(\d+)\s+(?:limit|tally)").match(self.data.decode(), first.start):
                 yield "E14 a smaller max", (Edit(*most.span(1), has[1]),)
-        if its.code == "E15" and "locked already" in its.sentence and (lock := re.compile(r"lock\s+\d+\s*\{([^{}]*)\}").match(self.data.decode(), its.start)):
+        if first.code == "E15" and "locked already" in first.sentence and (lock := re.compile(r"lock\s+\d+\s*\{([^{}]*)\}").match(self.data.decode(), first.start)):
             yield "E15 remove the inner lock", (Edit(*lock.span(), lock[1]),)
-        if its.code == "E15" and "not one crate of the plan" in its.sentence and (crate := re.match(r"(\w+ )\d+", text)):
-            yield "E15 a crate of the plan", (Edit(its.start, its.start + crate.end(), f"{crate[1]}{self.judged.plan.crates[0].number}"),)
-        if its.code == "E17" and (name := re.match(r"\w+", text)):
-            yield "E17 another variable", (Edit(0, 0, f"var {FRESH}\n"), Edit(its.start, its.start + len(name[0]), FRESH))
+        if first.code == "E15" and "not one crate of the plan" in first.sentence and (crate := re.match(r"(\w+ )\d+", text)):
+            yield "E15 a crate of the plan", (Edit(first.start, first.start + crate.end(), f"{crate[1]}{self.judged.plan.crates[0].number}"),)
+        if first.code == "E17" and (name := re.match(r"\w+", text)):
+            yield "E17 another variable", (Edit(0, 0, f"var {FRESH}\n"), Edit(first.start, first.start + len(name[0]), FRESH))
 
     def of_ranges(self, text):
         """A range that is made wider, or what has to be in it bounded: of an argument, and of what a loop keeps."""
-        its, sentence = self.first, self.first.sentence
+        first, sentence = self.first, self.first.sentence
         argument = re.match(r"Argument 1 may be (\d+)(?: to (\d+))?, and `(\w+)` takes (\d+) to (\d+)", sentence)
         if argument:
             low, high, name, least, most = argument.groups()
             call = re.fullmatch(r"(call \w+ ?)\(([^,]*)\)", text)
             if call and least == "0":
-                yield "E21 bound by %", (Edit(its.start, its.end, f"{call[1]}(({call[2]}) % {int(most) + 1})"),)
+                yield "E21 bound by %", (Edit(first.start, first.end, f"{call[1]}(({call[2]}) % {int(most) + 1})"),)
             called = re.match(r"call\s+(\w+)", text)[1]
             found = re.search(rf"\bproc\s+{called}\b[^{{]*?\b({name} in {least} ?\.\. ?{most})\b", self.data.decode())
             if found:
@@ -175,9 +175,9 @@ class Refused:
         if entry:
             name, low, high, least, most = entry.groups()
             if int(least) <= int(most):
-                yield "E8 set it before", (Edit(its.start, its.start, f"{name} = {least} "),)
+                yield "E8 set it before", (Edit(first.start, first.start, f"{name} = {least} "),)
                 wide = f"{name} in {min(int(low), int(least))}..{max(int(high or low), int(most))}"
-                kept = re.compile(rf"\b{name}\s+in\s+{least}\s*\.\.\s*{most}\b").search(self.data.decode(), its.start)
+                kept = re.compile(rf"\b{name}\s+in\s+{least}\s*\.\.\s*{most}\b").search(self.data.decode(), first.start)
                 yield from self.of_unwritten(name)
                 if kept:
                     yield "E8 widen the range", (Edit(*kept.span(), wide),)
@@ -199,12 +199,12 @@ class Refused:
 
     def is_of_a_loop(self):
         """Whether the loop itself writes the variable that it keeps, or a loop up to the line writes one of the statement and does not keep it."""
-        its = self.first
-        if its.code in ("E8", "E9"):
-            kept = re.search(r"`(\w+)`", its.sentence)[1]
-            return any(kept in it.written for it in self.loops() if it.start == its.start)
-        names = {*re.findall(r"\w+", self.data[its.start : its.end].decode())}
-        return any(names & it.written - {kept.name for kept in it.keeps} for it in self.loops() if it.start <= its.start)
+        first = self.first
+        if first.code in ("E8", "E9"):
+            kept = re.search(r"`(\w+)`", first.sentence)[1]
+            return any(kept in it.written for it in self.loops() if it.start == first.start)
+        names = {*re.findall(r"\w+", self.data[first.start : first.end].decode())}
+        return any(names & it.written - {kept.name for kept in it.keeps} for it in self.loops() if it.start <= first.start)
 
     def is_in_procedure(self):
         block = self.judged.names.block_at(self.first.start)

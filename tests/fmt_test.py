@@ -137,8 +137,8 @@ class RandomScripts(Case):
 
     def cases(self):
         for number in range(CASES):
-            its = random.Random(f"{SEED} {number}")
-            yield number, its, (edge_case if number % 4 == 3 else script_case)(its).inputs
+            chance = random.Random(f"{SEED} {number}")
+            yield number, chance, (edge_case if number % 4 == 3 else script_case)(chance).inputs
 
     def told(self, plan, script, answers):
         """The verdict, without the lines of refusals, and what a run lists and writes."""
@@ -148,26 +148,26 @@ class RandomScripts(Case):
 
     def test_layout(self):
         tried = 0
-        for number, _, its in self.cases():
+        for number, _, case in self.cases():
             with self.subTest(number=number):
-                plan = plan_text(SAMPLE) if its.plan is None else its.plan
+                plan = plan_text(SAMPLE) if case.plan is None else case.plan
                 try:
-                    made = formatted(its.script)
+                    made = formatted(case.script)
                 except LayoutFault:
-                    self.assertRegex(library.tell("check", plan, its.script).text, "refused [SP]")
+                    self.assertRegex(library.tell("check", plan, case.script).text, "refused [SP]")
                     continue
                 tried += 1
-                self.assertEqual([it.text for it in tokens_of(made)], [it.text for it in tokens_of(its.script)])
-                self.assertEqual(_kept(rows_of(made)), _kept(rows_of(its.script)))
+                self.assertEqual([it.text for it in tokens_of(made)], [it.text for it in tokens_of(case.script)])
+                self.assertEqual(_kept(rows_of(made)), _kept(rows_of(case.script)))
                 self.assertEqual(formatted(made), made)
-                self.assertEqual(self.told(plan, made, its.answers), self.told(plan, its.script, its.answers))
+                self.assertEqual(self.told(plan, made, case.answers), self.told(plan, case.script, case.answers))
         self.assertGreater(tried, CASES // 2)
 
     def test_rename(self):
         tried = 0
-        for number, chance, its in self.cases():
-            plan = plan_text(SAMPLE) if its.plan is None else its.plan
-            text = Text(its.script.decode("utf-8", "replace"))
+        for number, chance, case in self.cases():
+            plan = plan_text(SAMPLE) if case.plan is None else case.plan
+            text = Text(case.script.decode("utf-8", "replace"))
             judged = Judged(Judge(plan, str(self.room)), text)
             mentions = judged.names.mentions
             if not mentions or not judged.ask("check").accepted:
@@ -181,7 +181,7 @@ class RandomScripts(Case):
                     continue
                 tried += 1
                 name = mention.symbol.name
-                told = self.told(plan, text.data, its.answers), self.told(plan, made, its.answers)
+                told = self.told(plan, text.data, case.answers), self.told(plan, made, case.answers)
                 self.assertNotIn(name, [it.symbol.name for it in Names(made).mentions if it.symbol.body == mention.symbol.body])
                 self.assertEqual(*(re.sub(rf"\b({name}|{new})\b", "it", repr(one)) for one in told))
         self.assertGreater(tried, CASES // 4)

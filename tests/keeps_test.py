@@ -107,10 +107,10 @@ def played(plan, text, dice, kind):
 class Loops(unittest.TestCase):
     def test_by_each(self):
         """All two hundred are refused as they are, and most are accepted with `each` alone."""
-        its = list(rows())
-        self.assertEqual((len(its), len({name for name, *_ in its})), (200, 200))
-        self.assertEqual([name for name, plan, text in its if not verdict("bounds", plan, text, judge()).text.startswith("refused E")], [])
-        helped = [name for name, plan, text in its if verdict("bounds", plan, with_each(text), judge()).accepted]
+        loops = list(rows())
+        self.assertEqual((len(loops), len({name for name, *_ in loops})), (200, 200))
+        self.assertEqual([name for name, plan, text in loops if not verdict("bounds", plan, text, judge()).text.startswith("refused E")], [])
+        helped = [name for name, plan, text in loops if verdict("bounds", plan, with_each(text), judge()).accepted]
         self.assertGreaterEqual(len(helped), BY_EACH)
 
     def test_solved(self):
@@ -160,8 +160,8 @@ class Written:
 
     def wider(self, found):
         """What is found in a wider range than it had."""
-        its = [(it, kept[it.name]) for loop, kept in zip(loops_of(found.applied(self.bare)), self.kept) for it in loop.keeps if it.name in kept]
-        return [(it.name, it.range) for it, had in its if it.range[0] < had[0] or it.range[1] > had[1]]
+        pairs = [(it, kept[it.name]) for loop, kept in zip(loops_of(found.applied(self.bare)), self.kept) for it in loop.keeps if it.name in kept]
+        return [(it.name, it.range) for it, had in pairs if it.range[0] < had[0] or it.range[1] > had[1]]
 
 
 def written_here():
@@ -238,8 +238,8 @@ class Proposed(Case):
             with self.subTest(body=body):
                 text = script(body).encode("latin-1")
                 found = self.proposed(text)
-                its = [(it.line, it.text) for it in found.proposals if it.kind is not Kind.HEADING]
-                self.assertEqual(its, wanted)
+                changes = [(it.line, it.text) for it in found.proposals if it.kind is not Kind.HEADING]
+                self.assertEqual(changes, wanted)
                 self.assertEqual((found.remaining, accepts("@sample", found.applied(text), judge())), (None, True))
 
     def test_nothing_is_proposed(self):

@@ -47,6 +47,17 @@ commands = [ { f = 0, a = 0, width = 12 } ]
 number = 1
 station = [ { n = 5, type = "ADC", gl = 3 } ]
 '''
+CALLS = """cdlam adc 1 1 5 12
+proc one(a in 0..11, v in 0..0) within 3 cycles event 0 words steps 2 {
+  cdreg r 1 1 5 a
+  cfsa 0 r -> v
+}
+service adc within 9 cycles event 0 words {
+  call one(3, 0)
+  call one(4, 0)
+  cclc adc
+}
+"""
 ARCHIVE_BYTES = 1_300_000
 NEEDED = {"malloc", "realloc", "free", "memcpy", "memmove", "memset"}
 ESONE = """
@@ -203,14 +214,14 @@ class Blocks:
     def __getattr__(self, name):
         return getattr(self.branch, name)
 
-    def block(self, its):
-        n, a, made, words = its.n, its.a, [], its.words
-        while len(made) < min(self.most, its.cycles) and words and (n, a) <= (its.last_n, its.last_a):
-            made.append(self.branch.cycle(its.c, n, a, its.f, its.data and its.data[its.words - words]))
+    def block(self, block):
+        n, a, made, words = block.n, block.a, [], block.words
+        while len(made) < min(self.most, block.cycles) and words and (n, a) <= (block.last_n, block.last_a):
+            made.append(self.branch.cycle(block.c, n, a, block.f, block.data and block.data[block.words - words]))
             words -= made[-1].q
-            if its.mode == library.Q_STOP and not made[-1].q:
+            if block.mode == library.Q_STOP and not made[-1].q:
                 break
-            if its.mode == library.SCAN:
+            if block.mode == library.SCAN:
                 n, a = (n, a + 1) if made[-1].q and a < 15 else (n + 1, 0)
         return made
 
@@ -311,17 +322,17 @@ class Calls(Case):
         """Its listing and its event file of random scripts and of the examples are those of `camac run`, byte for byte, and the same answers in lists, and in
         blocks that end anywhere, do the same."""
         pool = concurrent.futures.ProcessPoolExecutor()
-        its = list(itertools.islice(filter(None, pool.map(accepted_script, range(10 * SCRIPTS), chunksize=20)), SCRIPTS))
+        accepted = list(itertools.islice(filter(None, pool.map(accepted_script, range(10 * SCRIPTS), chunksize=20)), SCRIPTS))
         pool.shutdown(cancel_futures=True)
         for pair in pairs():
-            its += [tuple(it.read_bytes() for it in pair)] * (LISTS if pair[0].parent == EXAMPLES else FEW_LISTS)
-        for k, texts in enumerate(its):
+            accepted += [tuple(it.read_bytes() for it in pair)] * (LISTS if pair[0].parent == EXAMPLES else FEW_LISTS)
+        for k, texts in enumerate(accepted):
             for kind, text in zip(("plan", "script"), texts):
                 (self.room / f"{k}.{kind}").write_bytes(text)
-        status, counts = call(self.program("consumer"), self.room, len(its))
+        status, counts = call(self.program("consumer"), self.room, len(accepted))
         self.assertEqual(status, 0, counts)
         lists, answers, with_blocks = map(int, counts.split())
-        self.assertGreater(answers - lists, len(its))
+        self.assertGreater(answers - lists, len(accepted))
         self.assertGreater(lists - with_blocks, 100)
 
         def ran(k):
@@ -332,7 +343,7 @@ class Calls(Case):
             return listing.split()[-6 if status else -3]
 
         with concurrent.futures.ThreadPoolExecutor(len(os.sched_getaffinity(0))) as pool:
-            ends = collections.Counter(pool.map(ran, range(len(its))))
+            ends = collections.Counter(pool.map(ran, range(len(accepted))))
         self.assertGreater(min(ends[it] for it in ("ended", "short", "overrun")), 100)
         print(f"\nends {dict(ends)}, {answers} answers in {lists} lists, {with_blocks} with blocks", flush=True)
 
@@ -341,24 +352,24 @@ class Calls(Case):
             self.assertEqual(call(self.program("calls", static=static), SAMPLE, self.write("its.script", STRAIGHT_LINE), 0), (0, ""))
 
     def test_what_a_session_tells(self):
-        for its in ("straight_line", "lockout", "procedure"):
-            self.assertEqual(call(self.program("sessions"), SAMPLE, EXAMPLES / f"{its}.script"), (0, ""))
+        for name in ("straight_line", "lockout", "procedure"):
+            self.assertEqual(call(self.program("sessions"), SAMPLE, EXAMPLES / f"{name}.script"), (0, ""))
 
     def test_sessions_in_cpp(self):
         """A rate, lists and their end, and misuse by the call's name, with what the call needs."""
         program = of_c.compiled(self.room, "sessions_in_cpp", HERE / "sessions.cpp")
         told = ONE_SERVICE.format("once", "") + ONE_SERVICE.format("every 200", "of 3 ")
-        lists = "".join(f"1 12\n1 event {number} words 12\n" for number in (1, 2)) + "1 12\noverrun 1 wait 15\n"
+        lists = "".join(f"1 13\nevent {number} words 12\n" for number in (1, 2)) + "1 13\noverrun 1 wait 15\n"
         self.assertEqual(call(program, SAMPLE, self.write("its.script", CLEARED), EXAMPLES / "all_channels.script"), (0, told + lists + MISUSE_IN_CPP))
 
     def test_play_in_c_and_cpp(self):
         """What an answer did is told before lockouts are released, the last one first. One that failed is not held, and one with a wait too long is released."""
-        program, its = of_c.compiled(self.room, "play", HERE / "play.cpp"), self.write("nested.script", NESTED)
+        program, script = of_c.compiled(self.room, "play", HERE / "play.cpp"), self.write("nested.script", NESTED)
         answers = ["0 0 0 0 1", "0 0 0 0 0", "fault", "fault", "0 0 0 0 1", *["0 0 0 0 0"] * 2, "1 1 0 0 0", "0 0 0 0 1", "0 0 0 0 0"]
         for end, told, code in (("", "lock 2 0\nunlock 1\n", library.OK), ("0 0 0 f 0", "lock 2 0\nunlock 2\nunlock 1\n", library.OVERRUN)):
             for by in ("c", "cpp"):
                 for limit in (library.NO_LIMIT, 0):
-                    status, found = call(program, EXAMPLES / "three_crates.toml", its, by, limit, *answers, *filter(None, [end]))
+                    status, found = call(program, EXAMPLES / "three_crates.toml", script, by, limit, *answers, *filter(None, [end]))
                     lines, wanted = found.replace("pause\n", "").splitlines(), (NESTED_PLAYED + told).splitlines()
                     self.assertEqual((status, lines if limit else sorted(lines)), (code, wanted if limit else sorted(wanted)))
                     self.assertEqual("pause" in found, limit == 0)
@@ -369,41 +380,41 @@ class Calls(Case):
         answers = ["0 0 0 0 4", yes, yes, "end", no, "end", yes, "fault", "0 0 0 0 4", no, "end", yes, "1 1 0 f 0", "end"]
         wanted = "demand 0 0\nblock 1 6 0 4 4\nblock 1 6 0 2 2\nblock 4 5 0 16 16\nfault at line 11\ndemand 0 0\nblock 1 6 0 4 4\nblock 4 5 0 16 16\n"
         for by in ("c", "cpp"):
-            its = call(program, SAMPLE, EXAMPLES / "transfers.script", by, library.NO_LIMIT, *answers)
-            self.assertEqual(its, (library.OVERRUN, wanted))
+            found = call(program, SAMPLE, EXAMPLES / "transfers.script", by, library.NO_LIMIT, *answers)
+            self.assertEqual(found, (library.OVERRUN, wanted))
 
     def test_a_run_in_cpp(self):
         """It is played once, and twice if it prints much more than its answers let expect."""
         program = of_c.compiled(self.room, "runs", HERE / "runs.cpp")
         many = "var i\ncdlam adc 1 1 5 12\nservice adc within 0 cycles event 4096 words { for i = 1 to 4096 { put i } }\n"
-        for runs, its, answers in ((1, STRAIGHT_LINE, "0 0 000000 0 000004\n1 1 123fff 0 000000\n" * 2000), (2, many, "0 0 000000 0 000004\n")):
-            verdict, file = library.run(SAMPLE.read_bytes(), its, answers)
+        for runs, script, answers in ((1, STRAIGHT_LINE, "0 0 000000 0 000004\n1 1 123fff 0 000000\n" * 2000), (2, many, "0 0 000000 0 000004\n")):
+            verdict, file = library.run(SAMPLE.read_bytes(), script, answers)
             self.assertGreater(len(file), 4096 + 4 * len(answers) if runs == 2 else 4096)
-            words = [program, SAMPLE, self.write("its.script", its), self.write("answers", answers)]
+            words = [program, SAMPLE, self.write("its.script", script), self.write("answers", answers)]
             told = subprocess.run(words, stdout=subprocess.PIPE)
             self.assertEqual((told.returncode, told.stdout), (0, f"{runs}\n{verdict.text}".encode() + file))
 
     def test_flat_memory(self):
-        its = self.write("short.toml", SHORT_PLAN), self.write("short.script", STRAIGHT_LINE)
-        status, told = call(self.program("calls"), *its, OPENINGS)
+        files = self.write("short.toml", SHORT_PLAN), self.write("short.script", STRAIGHT_LINE)
+        status, told = call(self.program("calls"), *files, OPENINGS)
         self.assertEqual(status, 0, told)
         self.assertLess(int(re.findall(r"(\d+) after", told)[0]), MOST_KIB)
 
     def test_each_allocation_refused(self):
-        its = STRAIGHT_LINE.replace("within 3", "within 6").replace("put v\n", "put v\n  cclc adc\n")
-        status, told = call(self.program("refuse"), SAMPLE, self.write("its.script", its))
+        script = STRAIGHT_LINE.replace("within 3", "within 6").replace("put v\n", "put v\n  cclc adc\n")
+        status, told = call(self.program("refuse"), SAMPLE, self.write("its.script", script))
         self.assertEqual(status, 0, told)
         self.assertGreater(int(told), 50)
 
     @needed("valgrind")
     def test_all_is_freed(self):
         words = ["valgrind", "-q", "--leak-check=full", "--show-leak-kinds=all", "--errors-for-leak-kinds=all", "--error-exitcode=9"]
-        its = (SAMPLE, EXAMPLES / "lockout.script")
-        for kind, path in zip(("plan", "script"), its):
+        files = (SAMPLE, EXAMPLES / "lockout.script")
+        for kind, path in zip(("plan", "script"), files):
             shutil.copy(path, self.room / f"0.{kind}")
         status, told = call(*words, self.program("consumer"), self.room, 1)
         self.assertEqual(status, 0, told)
-        status, told = call(*words, self.program("calls"), *its, 5)
+        status, told = call(*words, self.program("calls"), *files, 5)
         self.assertEqual(status, 0, told)
 
 
@@ -429,7 +440,7 @@ class Examples(Case):
         self.assertEqual(status, 0, told)
         print(f"\n{told}", end="", flush=True)
         one, lists, blocks = ([int(it) for it in re.findall(r"\d+", line)] for line in told.splitlines())
-        self.assertEqual((one[:2], lists[:2], blocks[:2]), ([7000, 7000], [7000, 1500], [7000, 1500]))
+        self.assertEqual((one[:2], lists[:2], blocks[:2]), ([7000, 7000], [7000, 1000], [7000, 1000]))
         self.assertGreater(lists[2], one[2])
 
 
@@ -438,13 +449,13 @@ class Python(Case):
         return SAMPLE.read_bytes()
 
     def test_texts(self):
-        for its in (EXAMPLES / "straight_line.script", EXAMPLES / "too_few_cycles.script"):
+        for script in (EXAMPLES / "straight_line.script", EXAMPLES / "too_few_cycles.script"):
             for name in ("check", "explain", "bounds", "costs", "tell", "response"):
-                verdict = library.tell(name, self.sample(), its.read_text())
-                self.assertEqual((0 if verdict.accepted else 1, verdict.text), call(PROGRAM, name, SAMPLE, its))
+                verdict = library.tell(name, self.sample(), script.read_text())
+                self.assertEqual((0 if verdict.accepted else 1, verdict.text), call(PROGRAM, name, SAMPLE, script))
             for line, column in ((1, 1), (4, 3), (5, 3), (5, 99), (99, 1)):
-                verdict = library.explain_at(self.sample(), its.read_text(), line, column)
-                self.assertEqual((0 if verdict.accepted else 1, verdict.text), call(PROGRAM, "explain", "--at", f"{line}:{column}", SAMPLE, its))
+                verdict = library.explain_at(self.sample(), script.read_text(), line, column)
+                self.assertEqual((0 if verdict.accepted else 1, verdict.text), call(PROGRAM, "explain", "--at", f"{line}:{column}", SAMPLE, script))
         for line, column in ((0, 1), (1, 0), (1 << 32, 1)):
             with self.assertRaises(UsageFault):
                 library.explain_at(self.sample(), b"", line, column)
@@ -461,8 +472,8 @@ class Python(Case):
         odd = self.room / "odd.script"
         odd.write_bytes(STRAIGHT_LINE.replace("within 3 cycles", "within 0 cycles").replace("{", "{ # \xe9", 1).encode("latin-1"))
         plan = self.write("bad.toml", "[[types]]\n")
-        its = [*pairs(), ("@sample", EXAMPLES / "too_few_cycles.script"), ("@sample", odd), (plan, odd), ("@sample", self.write("none.script", ""))]
-        words = [(command, "--", *it) for it in its for command in ("check", "explain", "bounds", "costs", "tell", "response")]
+        cases = [*pairs(), ("@sample", EXAMPLES / "too_few_cycles.script"), ("@sample", odd), (plan, odd), ("@sample", self.write("none.script", ""))]
+        words = [(command, "--", *it) for it in cases for command in ("check", "explain", "bounds", "costs", "tell", "response")]
         for it in [*words, ("explain", "--", plan), ("plan", "--", plan), ("plan", "--", "@sample")]:
             with self.subTest(it):
                 self.assertEqual(*(list(lines_of(*it, program=program)) for program in (PROGRAM, "@library")))
@@ -474,35 +485,35 @@ class Python(Case):
             first, second = (found.exception.text.partition("\n")[0] for found in (by_program, by_library))
             self.assertEqual((first, by_program.exception.status), (second, by_library.exception.status))
         with self.assertRaises(UsageFault):
-            output_of("drive", "--", *its[0], "e", program="@library")
+            output_of("drive", "--", *cases[0], "e", program="@library")
 
     def test_check(self):
         """`camac-check` says the same by the library as by the program, in each format."""
-        plans = {its: str(plan) for plan, its in pairs()}
+        plans = {script: str(plan) for plan, script in pairs()}
         plans.update({EXAMPLES / "too_few_cycles.script": "@sample", self.write("none.script", ""): "@sample", self.room / "no.script": "@sample"})
-        for its, plan in plans.items():
-            judged = [judge.judge(plan, [str(its)], program) for program in (PROGRAM, "@library")]
+        for script, plan in plans.items():
+            judged = [judge.judge(plan, [str(script)], program) for program in (PROGRAM, "@library")]
             for form in judge.FORMATS:
-                with self.subTest(script=its, form=form):
+                with self.subTest(script=script, form=form):
                     self.assertEqual(*(judge.text_of(it, form) for it in judged))
 
     def test_response(self):
-        its = self.sample(), CLEARED
-        told = library.response(*its, every={"adc": 200}, within={"adc": 3})
+        texts = self.sample(), CLEARED
+        told = library.response(*texts, every={"adc": 200}, within={"adc": 3})
         self.assertEqual(told, (True, ONE_SERVICE.format("every 200", "of 3 ")))
-        self.assertEqual(library.response(*its, within={"adc": 2}), (False, ONE_SERVICE.format("once", "of 2 ")))
+        self.assertEqual(library.response(*texts, within={"adc": 2}), (False, ONE_SERVICE.format("once", "of 2 ")))
         unkept = "service adc gl 3 cycles 3 once start - end - longest -\nunkept adc line 3: does not clear its look-at-me\n"
         self.assertEqual(library.response(self.sample(), STRAIGHT_LINE), (False, unkept))
         for wrong in ({"adc": 0}, {"adc": 1 << 32}, {"adc": -1}, {"nobody": 3}, {"": 3}, {"adc=3 nobody": 3}, {"adc ": 3}):
             with self.subTest(wrong), self.assertRaises(UsageFault) as found:
-                library.response(*its, every=wrong)
+                library.response(*texts, every=wrong)
             self.assertEqual(found.exception.status, 2)
 
     def test_run_and_events(self):
         answers = EXAMPLES / "three_modules.answers"
-        its = (EXAMPLES / "three_crates.toml", EXAMPLES / "three_modules.script")
-        verdict, file = library.run(*(it.read_bytes() for it in (*its, answers)))
-        told = call(PROGRAM, "run", *its, answers, self.room / "events")
+        files = (EXAMPLES / "three_crates.toml", EXAMPLES / "three_modules.script")
+        verdict, file = library.run(*(it.read_bytes() for it in (*files, answers)))
+        told = call(PROGRAM, "run", *files, answers, self.room / "events")
         self.assertEqual(((0 if verdict.accepted else 1), verdict.text), told)
         self.assertEqual(file, self.file("events"))
         self.assertEqual(library.events(file).text, call(PROGRAM, "events", self.room / "events")[1])
@@ -516,30 +527,30 @@ class Python(Case):
         )
 
     def test_play_is_drive(self):
-        for its in (EXAMPLES / "lockout.script", EXAMPLES / "straight_line.script"):
+        for script in (EXAMPLES / "lockout.script", EXAMPLES / "straight_line.script"):
             ends = []
             for number, by in enumerate((camac.drive, camac.play)):
                 recorder = Recorder(self.branch())
                 (self.room / f"{number}").unlink(missing_ok=True)
-                end = by("@sample", its, recorder, self.room / f"{number}", program=PROGRAM, timeout=60)
+                end = by("@sample", script, recorder, self.room / f"{number}", program=PROGRAM, timeout=60)
                 ends.append((end, recorder.answer_lines(), self.file(f"{number}")))
             self.assertEqual(ends[0], ends[1])
             self.assertEqual(ends[0][0].events, 200)
 
-    def asked_and_left(self, by, plan, its, branch):
+    def asked_and_left(self, by, plan, script, branch):
         """What a run asks of the branch, what it raises, and its event file."""
         events = self.room / "its.events"
         events.unlink(missing_ok=True)
         raised = None
         try:
-            by(plan, its, branch, events, program=PROGRAM, timeout=60)
+            by(plan, script, branch, events, program=PROGRAM, timeout=60)
         except Broken as why:
             raised = why
         return branch.asked, raised, events.read_bytes()
 
     def test_nested_locks_are_released_in_the_order_of_drive(self):
-        its, answers = self.write("nested.script", NESTED), (Answer(gl=1), Answer(), Answer(), CYCLE)
-        runs = [self.asked_and_left(by, EXAMPLES / "three_crates.toml", its, Listed(*answers)) for by in (camac.drive, camac.play)]
+        script, answers = self.write("nested.script", NESTED), (Answer(gl=1), Answer(), Answer(), CYCLE)
+        runs = [self.asked_and_left(by, EXAMPLES / "three_crates.toml", script, Listed(*answers)) for by in (camac.drive, camac.play)]
         self.assertEqual(*runs)
         self.assertEqual(runs[0][0][-3:], [("unlock", 2), ("unlock", 1), ("demand",)])
 
@@ -635,9 +646,9 @@ class Python(Case):
         lock = Answer()
         for error in (Broken(), KeyboardInterrupt()):
             for count in range(1, 7):
-                its = [DEMAND, lock, CYCLE, CYCLE, CYCLE, CYCLE][:count]
+                operations = [DEMAND, lock, CYCLE, CYCLE, CYCLE, CYCLE][:count]
                 with self.subTest(error=error, count=count), self.assertRaises(type(error)):
-                    self.play(LOCKOUT, *its, error)
+                    self.play(LOCKOUT, *operations, error)
                 # a lockout that failed is not held; one that was interrupted may be
                 is_held = count > 1 or isinstance(error, KeyboardInterrupt)
                 self.assertEqual(self.branch_asked.asked.count(("unlock", 1)), int(is_held))
@@ -646,7 +657,7 @@ class Python(Case):
         """The event file is that of the run without the demand and the answers of that service; its lockout is released."""
         whole, broken, places = [DEMAND, Answer(), *[CYCLE] * 4], Broken(), []
         for asked in (1, 2, 4):
-            self.play(LOCKOUT, *whole[:asked], broken, *whole, events=self.room / f"{asked}.events", on_fault=lambda *its: not places.append(its))
+            self.play(LOCKOUT, *whole[:asked], broken, *whole, events=self.room / f"{asked}.events", on_fault=lambda *given: not places.append(given))
             lines = "".join(f"{it.line()}\n" for it in whole)
             self.assertEqual(self.file(f"{asked}.events"), library.run(self.sample(), LOCKOUT, lines)[1])
             self.assertEqual(self.branch_asked.asked[asked + 1], ("demand",) if asked == 1 else ("unlock", 1))
@@ -694,12 +705,13 @@ class Python(Case):
         session.close()
 
     def test_lists(self):
-        """What is ahead goes over the turns of a `for` and ends before an `if`; its answers are taken up to an event."""
+        """What is ahead goes through `for` and `call` and ends before an `if`; its answers are taken up to an event."""
         script = (EXAMPLES / "all_channels.script").read_bytes()
         with library.Session(self.sample(), script) as session:
             self.assertEqual([it.kind for it in session.ahead()], [library.DEMAND])
             session.next(DEMAND)
-            self.assertEqual([(it.c, it.n, it.a, it.f, it.data) for it in session.ahead()], [(1, 5, a, 0, library.READ) for a in range(12)])
+            cycles = [*((1, 5, a, 0, library.READ) for a in range(12)), (1, 5, 12, 10, library.NO_DATA)]
+            self.assertEqual([(it.c, it.n, it.a, it.f, it.data) for it in session.ahead()], cycles)
             self.assertEqual((len(session.ahead(5)), session.ahead(0)), (5, []))
             did = session.next_many([Answer(1, 1, a) for a in range(12)] + [Answer(1, 1), DEMAND])
             self.assertEqual(([it.word for it in did], did[-1].event, session.words()), ([*range(12), 0], 1, tuple(range(12))))
@@ -710,11 +722,14 @@ class Python(Case):
         self.assertEqual(session.ahead(), [])
         with self.assertRaises(UsageFault):
             session.next_many([CYCLE])
+        with library.Session(self.sample(), CALLS) as session:
+            session.next(DEMAND)
+            self.assertEqual([(it.a, it.f) for it in session.ahead()], [(3, 0), (4, 0), (12, 10)])
 
     def left(self, session):
         """What is left of a block, and the words to write."""
-        its = session.wants()
-        return (its.mode, its.c, its.n, its.a, its.f, its.last_n, its.last_a, its.cycles, its.words) if its.kind == library.BLOCK else its.kind, session.block_words()
+        want = session.wants()
+        return (want.mode, want.c, want.n, want.a, want.f, want.last_n, want.last_a, want.cycles, want.words) if want.kind == library.BLOCK else want.kind, session.block_words()
 
     def test_blocks(self):
         """What is left of a transfer is one want where its mode is allowed. A part of its answers leaves the rest, and those behind its end are not taken."""
@@ -758,7 +773,7 @@ class Python(Case):
         self.assertEqual(files[1:], files[:1] * 3)
         for answers in ([], [CYCLE] * 100, [None]):
             branch = Blocks(self.branch(), 1)
-            branch.block = lambda its, answers=answers: answers
+            branch.block = lambda block, answers=answers: answers
             with self.assertRaises(TypeError):
                 camac.play("@sample", EXAMPLES / "transfers.script", branch)
 
@@ -809,10 +824,10 @@ class Package(Case):
         self.assertEqual(status, 0, told)
         (wheel,) = self.room.glob("*.whl")
         self.assertEqual(told, f"{wheel}\n")
-        with zipfile.ZipFile(wheel) as its:
-            its.extractall(self.room / "place")
-            listed = {it.split(",")[0] for it in its.read(next(it for it in its.namelist() if it.endswith("RECORD"))).decode().split()}
-            self.assertEqual(listed, set(its.namelist()))
+        with zipfile.ZipFile(wheel) as archive:
+            archive.extractall(self.room / "place")
+            listed = {it.split(",")[0] for it in archive.read(next(it for it in archive.namelist() if it.endswith("RECORD"))).decode().split()}
+            self.assertEqual(listed, set(archive.namelist()))
         self.check_without_program(self.check_place(self.room / "place"))
 
     def check_place(self, place):
@@ -824,7 +839,7 @@ class Package(Case):
 
     def check_without_program(self, env):
         """What needs no run is done by the library."""
-        few, its, event_file = EXAMPLES / "too_few_cycles.script", EXAMPLES / "procedure.script", self.room / "run.events"
+        few, script, event_file = EXAMPLES / "too_few_cycles.script", EXAMPLES / "procedure.script", self.room / "run.events"
         event_file.write_bytes(b"CAMACEV2")
         calls = [sys.executable, "-m", "camac"]
         refused = (1, f"{few}:4:1: refused E12: more cycles than annotated\n")
@@ -834,8 +849,8 @@ class Package(Case):
         broken.chmod(0o755)
         self.assertEqual(call(*calls, "check", "@sample", few, env={**env, "PATH": f"{self.room}/bin:{env['PATH']}"}), refused)
         self.assertEqual(call(*calls, "check", "@sample", few, env={**env, "CAMAC_PROGRAM": str(broken)})[0], 3)
-        late = ["draw", "response", "@sample", its, "--every", "adc=100"]
-        made = (["draw", "costs", "@sample", its], ["draw", "plan", "@sample", its], late, ["report", "@sample", its, event_file])
+        late = ["draw", "response", "@sample", script, "--every", "adc=100"]
+        made = (["draw", "costs", "@sample", script], ["draw", "plan", "@sample", script], late, ["report", "@sample", script, event_file])
         for at, words in enumerate(made):
             self.assertEqual(call(*calls, *words, "-o", self.room / f"it{at}.svg", env=env), (0, ""))
         straight, answers = EXAMPLES / "straight_line.script", self.write("answers", "0 0 000000 0 000004\n1 1 123fff 2 000000\n1 1 000000 0 000000\n")

@@ -151,13 +151,13 @@ class Messages(Served):
     def test_cancelled_requests(self):
         """A request that waits is answered as cancelled; a later one is not, even of the same number."""
         uri = self.open(SCRIPT * 2)
-        its = [self.client.begin("textDocument/documentSymbol", textDocument={"uri": uri}) for _ in range(50)]
-        self.client.tell("$/cancelRequest", id=its[-1])
+        requests = [self.client.begin("textDocument/documentSymbol", textDocument={"uri": uri}) for _ in range(50)]
+        self.client.tell("$/cancelRequest", id=requests[-1])
         self.client.tell("$/cancelRequest", id="none")
-        answers = [self.client.result(it) for it in its]
+        answers = [self.client.result(it) for it in requests]
         self.assertTrue(all(isinstance(it, list) for it in answers[:10]))
         self.assertEqual(answers[-1]["code"], CANCELLED)
-        self.client.tell("$/cancelRequest", id=its[-1] + 1)
+        self.client.tell("$/cancelRequest", id=requests[-1] + 1)
         self.assertIsInstance(self.client.ask("textDocument/documentSymbol", textDocument={"uri": uri}), list)
 
 
@@ -203,7 +203,7 @@ class Documents(unittest.TestCase):
                 listed = read_plan(output_of("plan", "--commands", "--", it, program=PROGRAM)).types
             except Exception:
                 continue
-            commands = {(name, one.function, sub, one.is_probe) for name, its in listed.items() for one in its.declarations for sub in range(one.first, one.last + 1)}
+            commands = {(name, one.function, sub, one.is_probe) for name, kind in listed.items() for one in kind.declarations for sub in range(one.first, one.last + 1)}
             found = {(name, one.function, sub, one.is_probe) for name, one in declarations(it.read_text()) for sub in range(one.first, one.last + 1)}
             self.assertEqual(found, commands, it)
 
@@ -425,7 +425,7 @@ class Shown(Served):
 
     def test_names(self):
         uri = self.open(SCRIPT)
-        ranges = lambda its: [(it["range"]["start"]["line"], it["range"]["start"]["character"]) for it in its]
+        ranges = lambda places: [(it["range"]["start"]["line"], it["range"]["start"]["character"]) for it in places]
         self.assertEqual(ranges(self.client.at("definition", uri, 10, 8)), [(2, 5)])
         self.assertEqual(ranges(self.client.at("definition", uri, 9, 9)), [(8, 8)])
         self.assertEqual(ranges(self.client.at("definition", uri, 7, 10)), [(0, 6)])

@@ -6,7 +6,7 @@ usage: tests/mistakes_test.py [-v] [TEST ..]     from any folder; takes a few se
 from support.program import Room, run_tests
 
 # At least so many of a hundred are told right.
-LEAST = 98
+LEAST = 100
 LINE = "1 1 123fff 0 000004\n"
 FORM = "`x q word wait gl`, as `1 1 123fff 0 000004`"
 PLAN = """[[type]]

@@ -13,11 +13,9 @@ from unittest import mock
 
 from support.program import TOP
 from rounds import repository
-from rounds.bodies import bodies_of, packed
-from rounds.plants import plants_of
+from rounds.bodies import bodies_of, packed, plants_of
 from rounds.prover import Round
-from rounds.refusals import Refusals
-from rounds.trials import Report
+from rounds.trials import Refusals, Report
 
 # Functions beside one another, functions that call one another, and a conversion, which `?` calls.
 SOURCE = """\
@@ -253,7 +251,7 @@ class Kept(Tool):
             self.assertEqual(tuple(it for it, was in zip(names, before) if self.total(it) != was), changed)
             path.write_text(text, "utf-8") if text else path.unlink()
         before = self.total(names[0])
-        with mock.patch("rounds.refusals.toolchain", lambda: "another"):
+        with mock.patch("rounds.trials.toolchain", lambda: "another"):
             self.assertNotEqual(self.total(names[0]), before)
 
 

@@ -40,6 +40,8 @@ from camac.texts import source_lines
 from camac.values import BodyKind
 
 KEPT = TOP / "tests/pictures"
+OTHERS = KEPT / "others.html"
+SHOWN = {*re.findall(r"tests/pictures/([\w-]+)\.svg", "".join(it.read_text(encoding="utf-8") for it in (TOP / "README.md", *TOP.glob("docs/*.md"))))}
 FIGURE = re.compile(r"<svg .*?</svg>", re.S)
 
 
@@ -506,15 +508,21 @@ def kept_pictures():
     return {name: canvas.picture() for name, canvas in drawn.items()}
 
 
+def page_of_others(drawn):
+    return "".join(f"<h2>{name}</h2>\n{text}" for name, text in drawn.items() if name not in SHOWN)
+
+
 class Kept(unittest.TestCase):
-    """Pictures of fixed values, without the program."""
+    """Pictures of fixed values, without the program: those that a page shows are files, and the others are in one."""
 
     def test_kept(self):
         drawn = kept_pictures()
-        self.assertEqual(sorted(it.stem for it in KEPT.glob("*.svg")), sorted(drawn))
+        self.assertEqual({it.stem for it in KEPT.glob("*.svg")}, SHOWN)
+        self.assertEqual(page_of_others(drawn), OTHERS.read_text(encoding="utf-8"))
         for name, text in drawn.items():
             with self.subTest(name):
-                self.assertEqual(text, (KEPT / f"{name}.svg").read_text(encoding="utf-8"))
+                if name in SHOWN:
+                    self.assertEqual(text, (KEPT / f"{name}.svg").read_text(encoding="utf-8"))
                 ElementTree.fromstring(text)
                 self.assertEqual(ElementTree.fromstring(text).get("width"), "960")
 
@@ -536,7 +544,7 @@ class Kept(unittest.TestCase):
         costs = (KEPT / "costs-call.svg").read_text()
         self.assertIn("at most 20 = 5 ours + 10 waits + 5 promised by procedures, not needed", costs)
         self.assertIn("4 times at most 4 cycles: 16 cycles, 80 % of the bound\nof them 8 waits, 4 promised", costs)
-        self.assertIn("15 cycles of auxiliary controllers before the next operation", (KEPT / "strip-small-missed-0.svg").read_text())
+        self.assertIn("15 cycles of auxiliary controllers before the next operation", kept_pictures()["strip-small-missed-0"])
 
     def test_seams(self):
         """Columns lie edge to edge on whole pixels."""
@@ -748,8 +756,10 @@ def keep():
     KEPT.mkdir(exist_ok=True)
     for path in KEPT.glob("*.svg"):
         path.unlink()
-    for name, text in kept_pictures().items():
-        (KEPT / f"{name}.svg").write_text(text, encoding="utf-8")
+    drawn = kept_pictures()
+    OTHERS.write_text(page_of_others(drawn), encoding="utf-8")
+    for name in SHOWN:
+        (KEPT / f"{name}.svg").write_text(drawn[name], encoding="utf-8")
 
 
 if __name__ == "__main__":

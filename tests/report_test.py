@@ -327,17 +327,18 @@ class Pages(unittest.TestCase):
 
     def test_completions(self):
         for command in ("check", "fmt", "lsp", "report", "survey"):
-            for name in (f"camac-{command}.bash", f"_camac-{command}", f"camac-{command}.fish"):
-                text = (TOP / "completions" / name).read_text()
-                self.assertEqual("@sample" in text, command in ("check", "report", "survey"))
+            for name in ("camac.bash", "_camac", "camac.fish"):
+                text = "\n".join(re.findall(rf"(?ms)^complete [^\n]*camac-{command}\b[^\n]*|^  camac-{command}\) .*?;;$", (TOP / "completions" / name).read_text()))
+                if not name.endswith(".bash"):
+                    self.assertEqual("@sample" in text, command in ("check", "report", "survey"))
                 for short, long in self.options(command):
                     self.assertRegex(text, rf"-{short}\b|-s {short}\b")
                     self.assertRegex(text, rf"--{long}\b|-l {long}\b")
 
     def test_bash(self):
         def offered(command, *words):
-            line = f'source "$0"; COMP_WORDS=(camac-{command} "$@"); COMP_CWORD=$#; _camac_{command}; printf "%s\\n" "${{COMPREPLY[@]}}"'
-            done = subprocess.run(["bash", "-c", line, TOP / f"completions/camac-{command}.bash", *words], stdout=subprocess.PIPE, cwd=TOP / "examples")
+            line = f'source "$0"; COMP_WORDS=(camac-{command} "$@"); COMP_CWORD=$#; _camac_commands; printf "%s\\n" "${{COMPREPLY[@]}}"'
+            done = subprocess.run(["bash", "-c", line, TOP / "completions/camac.bash", *words], stdout=subprocess.PIPE, cwd=TOP / "examples")
             return done.stdout.decode().split()
 
         for command in ("check", "report", "survey"):

@@ -109,7 +109,7 @@ class ManualPages(unittest.TestCase):
 
     def test_script(self):
         text = page("man/camac-script.5")
-        forms = " ".join(re.findall(r"(?m)^\.(?:It )?Cm (.*)$", text)).split()
+        forms = re.findall(r"\w+", " ".join(re.findall(r"(?m)^\.(?:Cm|It Li) (.*)$", text)))
         self.assertEqual([it for it in keywords() if it not in forms], [])
         limits = [(most, what.replace("`", "")) for what, most in rows(page("docs/LANGUAGE.md"), "## Limits")]
         found = re.findall(r"(?m)^\.It (.*)\n(.*)$", text.partition(".Ss Limits")[2].partition(".El")[0])
@@ -162,7 +162,7 @@ class Crates(unittest.TestCase):
 
 class Lemmas(unittest.TestCase):
     # Files of worked rows and of proofs that the prover asks for by their names.
-    uncited = re.compile(r"(Rows|Arms|Growing|SamplePlan|Proof|Answers|Invariants)\.antt$")
+    uncited = re.compile(r"(Rows|Growing|SamplePlan|Proof|Answers|Invariants)\.antt$")
     # Worked facts that `search` finds.
     found = {"differences_exact"}
 

@@ -73,18 +73,18 @@ is_whole = False
 
 def without(text, it):
     """A script without what a warning is about, or with the clear that it asks for."""
-    name, its = re.search(r"`(?:cclc )?(\w+)", it.text), read_script(text.encode())
+    name, script = re.search(r"`(?:cclc )?(\w+)", it.text), read_script(text.encode())
     lines = text.split("\n")
     if it.code is Code.UNUSED_NAME and "register" not in it.text:
-        procedure = next((body for body in its.bodies if body.name == name[1]), None)
+        procedure = next((body for body in script.bodies if body.name == name[1]), None)
         if procedure:
             return text[: procedure.start] + text[procedure.end :]
         lines[it.line - 1] = re.sub(rf" {name[1]}\b", "", lines[it.line - 1]) if lines[it.line - 1].startswith("var ") else ""
         return "\n".join(lines)
-    if it.line in [body.line for body in its.bodies]:
-        body = next(body for body in its.bodies if body.line == it.line)
+    if it.line in [body.line for body in script.bodies]:
+        body = next(body for body in script.bodies if body.line == it.line)
         return f"{text[: body.end - 1]}cclc {name[1]}\n{text[body.end - 1 :]}"
-    wrong = next(one for body in its.bodies for one in body.every if one.line == it.line)
+    wrong = next(one for body in script.bodies for one in body.every if one.line == it.line)
     return text[: wrong.start] + text[wrong.end :]
 
 

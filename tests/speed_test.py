@@ -7,6 +7,7 @@ usage: tests/speed_test.py [-v] [TEST ..]     from any folder; takes about a min
 import compileall
 import importlib.machinery
 import importlib.util
+import json
 import os
 import shutil
 import statistics
@@ -57,13 +58,15 @@ class Commands(Room):
         shutil.copytree(TOP / "python/camac", self.room / "camac")
         compileall.compile_dir(self.room / "camac", quiet=1)
         script, listing = TOP / "examples/straight_line.script", self.write("run.listing", "demand 000004 adc\nended events 0\n")
+        messages = [json.dumps({"jsonrpc": "2.0", "id": 1, "method": it, "params": {}}) for it in ("initialize", "shutdown", "exit")]
+        asked = self.write("asked", "".join(f"Content-Length: {len(it)}\r\n\r\n{it}" for it in messages))
         for words in (
             ["check", "@sample", script], ["fmt", "--check", script], ["diff", script, script, "--plan", "@sample"], ["csv", "listing", listing],
-            ["draw", "plan", "@sample", "-o", self.room / "plan.svg"],
+            ["draw", "plan", "@sample", "-o", self.room / "plan.svg"], ["lsp"],
             ["simulate", "@sample", script, "--rate", "adc=1000", "--cycle-us", "1", "--services", "10"],
         ):
-            with self.subTest(words[0]), unittest.mock.patch.dict(os.environ, PYTHONPATH=str(self.room), CAMAC_PROGRAM=PROGRAM):
-                self.assertLess(speed.instructions([sys.executable, "-m", "camac", *words]), 200e6)
+            with self.subTest(words[0]), unittest.mock.patch.dict(os.environ, PYTHONPATH=str(self.room), CAMAC_PROGRAM=PROGRAM), open(asked) as given:
+                self.assertLess(speed.instructions([sys.executable, "-m", "camac", *words], given), 200e6)
 
 
 class Corpus(Room):

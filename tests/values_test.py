@@ -190,8 +190,8 @@ class Printed(Case):
         readers = {"plan": printed.read_plan, "check": read_services, "bounds": read_headings, "costs": bodies.parse_costs, "response": printed.read_responses}
         readers["tell"] = lambda text: (read_services(text), bodies.parse_costs(printed.costs_in(text)))
         known, read = re.compile(r"(not )?reached(\n\w+( \d+(\.\.\d+)?){1,3}|\nlock \d)*\n"), collections.Counter()
-        for its in (case for rows in ROWS.values() for cases in rows.values() for case in cases):
-            text, command = its.printed.decode(), its.command.partition(" ")[0]
+        for row in (case for rows in ROWS.values() for cases in rows.values() for case in cases):
+            text, command = row.printed.decode(), row.command.partition(" ")[0]
             lines = text.splitlines()
             if printed.is_refused(text):
                 found = printed.read_explanations(text)
@@ -199,8 +199,11 @@ class Printed(Case):
                 for it in found:
                     told = [*[it.sentence] * bool(it.sentence), *it.advice]
                     shown = it.lines[: len(it.lines) - len(told)]
-                    parts = [one.partition(": ")[0] for one in it.advice if not one.startswith(("Turn: ", "also refused "))]
-                    self.assertEqual((parts, it.lines), (["Why", "Fix", "More"] if its.command in ("explain", "explain --bounds", "tell") else [], (*shown, *told)))
+                    parts = [one.partition(": ")[0] for one in it.advice if not one.startswith(("Turn: ", "Set: ", "Plan: ", "Waits: ", "also refused "))]
+                    whole = ["Why", "Fix", "More"] if row.command in ("explain", "explain --bounds", "tell") else []
+                    # A hint of a text's fault is its fix.
+                    self.assertIn(parts, (whole, whole[it.refusal.code[0] == "S" :]))
+                    self.assertEqual(it.lines, (*shown, *told))
                     self.assertEqual(len(shown), 0 if "P" in it.refusal.code or not told else 2)
                 command = "refused"
             elif command == "run":
@@ -208,9 +211,9 @@ class Printed(Case):
             elif command == "drive":
                 self.assertEqual([it for it in lines if not printed.read_request(it.encode())], lines[-1:])
                 self.assertTrue(printed.read_end(lines[-1]))
-            elif "--at" in its.command:
-                self.assertEqual(printed.is_known(text), not its.status)
-                self.assertTrue(its.status or known.fullmatch(text), text)
+            elif "--at" in row.command:
+                self.assertEqual(printed.is_known(text), not row.status)
+                self.assertTrue(row.status or known.fullmatch(text), text)
             elif command != "explain":
                 readers[command](text)
             read[command] += 1
@@ -301,7 +304,7 @@ class Transfers(unittest.TestCase):
             "  cfmad 2 r s max 5 tally t\n  cfubc 0 w max 9 tally t\n  cfsa 0 w -> v  cfubr 0 r max 2 limit 6 tally t\n  cfubr 1\n    w max 2 limit 6 tally t\n}\n"
         )
         printed = (
-            "service adc line 3 gl 3 at 1 5 12 cycles 0 of 0 words 0 of 0 steps 9\n"
+            "service adc line 3 gl 3 at 1 5 12 cycles 0 of 0 words 0 of 0 steps 9\n" + 3 * "line 4 depth 1 cdreg times 1 cycles 0 words 0 steps 1 share 0 0 1\n" +
             "line 5 depth 1 cfmad times 1 cycles 9 words 5 steps 9 share 9 5 9 at 1 5 14 to 1 6 1\n"
             "line 6 depth 1 cfubc times 1 cycles 9 words 9 steps 9 share 9 9 9 at 2 3 4\n"
             "line 7 depth 1 cfsa times 1 cycles 1 words 0 steps 1 share 1 0 1 at 2 3 4\n"

@@ -242,8 +242,8 @@ class Warnings(Case):
         ]:
             for body, line in [*wrong.items(), *((it, None) for it in right)]:
                 with self.subTest(code=code.value, body=body):
-                    its = f"{proc.format(3, 'if q { s = 0 n = 1 } ctlm adc')}proc none() within 0 cycles event 0 words steps 0 {{ }}\n"
-                    text = script(["cdreg r 1 1 5 0", *body.split("\n")], 99_999, 4096).replace("var", f"{its}var")
+                    procedures = f"{proc.format(3, 'if q { s = 0 n = 1 } ctlm adc')}proc none() within 0 cycles event 0 words steps 0 {{ }}\n"
+                    text = script(["cdreg r 1 1 5 0", *body.split("\n")], 99_999, 4096).replace("var", f"{procedures}var")
                     found = [it.line for it in camac.warnings("@sample", self.write("a.script", text)) if it.code is code and it.line > 3]
                     self.assertEqual(found, [line + 5] if line else [])
 
@@ -252,8 +252,8 @@ class Warnings(Case):
         used = "table g = 1\nvar t\nproc p(s in 0..1) within 0 cycles event 0 words steps 1 { s = 1 }\n"
         more = "table h = 1\ncdlam full 1 1 5 13\nvar v\nproc none(n in 0..1) within 0 cycles event 0 words steps 0 { }\n"
         body = "call p(1) cdreg r 1 1 6 0 cfubc 16 r table g max 1 tally t {}cclc adc"
-        for its, register, wanted in (("", "", []), (more, "cdreg w 1 1 5 0 ", ["table `h`", "LAM `full`", "variable `v`", "parameter `n`", "procedure `none`", "register `w`"])):
-            text = its + used + CLEARED.replace("within 3", "within 6").replace("cclc adc", body.format(register))
+        for declared, register, wanted in (("", "", []), (more, "cdreg w 1 1 5 0 ", ["table `h`", "LAM `full`", "variable `v`", "parameter `n`", "procedure `none`", "register `w`"])):
+            text = declared + used + CLEARED.replace("within 3", "within 6").replace("cclc adc", body.format(register))
             found = sorted((it.line, it.text) for it in camac.warnings("@sample", self.write("a.script", text)))
             self.assertEqual([it for _, it in found], [f"the {it} is never used" for it in wanted])
 
@@ -266,8 +266,8 @@ class Warnings(Case):
         """Nothing is found in them."""
         alone = {"too_few_cycles.script", "three_modules.script"}
         on_sample = [it for it in sorted((TOP / "examples").glob("*.script")) if it.name not in alone]
-        for plan, its in [("@sample", on_sample), (TOP / "examples/three_crates.toml", [TOP / "examples/three_modules.script"])]:
-            for it in its:
+        for plan, scripts in [("@sample", on_sample), (TOP / "examples/three_crates.toml", [TOP / "examples/three_modules.script"])]:
+            for it in scripts:
                 with self.subTest(script=it.name):
                     self.assertEqual(camac.warnings(plan, it), [])
         for bench in sorted((TOP / "examples/benches").iterdir()):
@@ -280,13 +280,13 @@ class Warnings(Case):
         for page in [TOP / "README.md", *sorted((TOP / "docs").rglob("*.md"))]:
             text = page.read_text()
             plans = {name: self.write(name, plan) for name, plan in re.findall(r"(?ms)^```toml (\S+\.toml)\n(.*?)^```", text)}
-            for words, its in ACCEPTED.findall(text) if page.name != "REFUSALS.md" else ():
+            for words, script in ACCEPTED.findall(text) if page.name != "REFUSALS.md" else ():
                 name = words.partition(" on ")[2] or "@sample"
                 plan = plans.get(name, name if name == "@sample" else TOP / name)
                 if name == "@sample" or plan.is_file():
                     tried += 1
-                    with self.subTest(page=page.name, script=its):
-                        self.assertEqual(self.codes(its, *set(Code) - {Code.UNKEPT}, plan=plan), [])
+                    with self.subTest(page=page.name, script=script):
+                        self.assertEqual(self.codes(script, *set(Code) - {Code.UNKEPT}, plan=plan), [])
         self.assertGreater(tried, 15)
 
 

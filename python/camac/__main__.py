@@ -3,9 +3,9 @@ import argparse
 import functools
 import importlib
 import sys
-from typing import List, Optional
+from typing import Callable, List, Optional
 
-from camac.commands.running import LOST, STATUS, refuse_pipes
+from camac.commands.running import LOST, STATUS, read_every, refuse_pipes
 from camac.commands.running import main as run_command
 from camac.output import is_one_of
 
@@ -36,6 +36,8 @@ def parse(words: List[str]) -> argparse.Namespace:
     args = parser.parse_args(words)
     if "read" in args:
         args.read(args, parser)
+    if "every" in args:
+        args.every = read_every(args.every, getattr(args, "parser", parser))
     inputs = getattr(args, "files", []) + getattr(args, "scripts", []) + [getattr(args, name, "") or "" for name in INPUTS]
     refuse_pipes(parser, inputs, args.command == "fmt" or getattr(args, "what", "") == "listing")
     for out in (args.out, getattr(args, "write_record", None)):
@@ -48,20 +50,12 @@ def main(words: Optional[List[str]] = None) -> int:
     return run_command(parse, words)
 
 
-def report_command() -> int:
-    return main(["report", *sys.argv[1:]])
+def command(name: str) -> Callable[[], int]:
+    """A command under a name of its own, as `camac-report`."""
+    return lambda: main([name, *sys.argv[1:]])
 
 
-def fmt_command() -> int:
-    return main(["fmt", *sys.argv[1:]])
-
-
-def lsp_command() -> int:
-    return main(["lsp", *sys.argv[1:]])
-
-
-def survey_command() -> int:
-    return main(["survey", *sys.argv[1:]])
+report_command, fmt_command, lsp_command, survey_command = map(command, ("report", "fmt", "lsp", "survey"))
 
 
 if __name__ == "__main__":

@@ -3,7 +3,11 @@ from typing import Dict, List, Mapping, NamedTuple, Optional, Sequence
 
 from camac.language import CYCLES, TRANSFERS
 from camac.printed import read_bodies
+from camac.texts import GREATEST_DEPTH
 from camac.values import Body, Cost, Row
+
+# The most rows of a body with its calls opened.
+MOST = 2000
 
 
 def parse_costs(printed: str) -> List[Body]:
@@ -32,24 +36,24 @@ def _with_parts(row: Row, procedures: Dict[str, Body]) -> Row:
     return row
 
 
-def opened(body: Body, procedures: Mapping[str, Body], most: int = 2000, deepest: int = 16) -> List[Row]:
+def opened(body: Body, procedures: Mapping[str, Body]) -> List[Row]:
     """The rows of a body, with those of each called procedure below its call, as often as they are made there. The share of a call is then
-    what its heading promises and its body does not need. A call stays closed that is never counted, or at which there were more than `most`
-    rows, or below which a row were deeper than `deepest`."""
+    what its heading promises and its body does not need. A call stays closed that is never counted, or at which there were more than MOST
+    rows, or below which a row were deeper than a block may be."""
     found: List[Row] = []
 
     def take(rows: Sequence[Row], times: int, depth: int) -> None:
         """Adds the rows of a body that is called so many times, below a statement of this depth."""
         for row in rows:
             row = _times(row, times)._replace(depth=depth + row.depth)
-            its = called(row, procedures)
-            if not its or not row.share.cycles or len(found) + len(its.rows) > most or row.depth >= deepest:
+            procedure = called(row, procedures)
+            if not procedure or not row.share.cycles or len(found) + len(procedure.rows) > MOST or row.depth >= GREATEST_DEPTH:
                 found.append(row)
                 continue
             counted = _counted(row)
-            slack = counted * (row.each.cycles - its.most.cycles)
+            slack = counted * (row.each.cycles - procedure.most.cycles)
             found.append(row._replace(share=Cost(slack, 0, 0), waits=0, slack=slack))
-            take(its.rows, counted, row.depth)
+            take(procedure.rows, counted, row.depth)
 
     take(body.rows, 1, 0)
     return found
@@ -88,10 +92,10 @@ def calls_of(body: Body, procedures: Mapping[str, Body], most: int = 40) -> List
     """The calls of a body, and those of the procedures that it calls below them; the first `most` of them."""
     found: List[Call] = []
     for row in body.rows:
-        its = called(row, procedures)
-        if its and row.share.cycles and len(found) < most:
+        procedure = called(row, procedures)
+        if procedure and row.share.cycles and len(found) < most:
             counted = _counted(row)
-            rows = tuple(_times(it, counted) for it in its.rows)
-            scaled = its._replace(rows=rows, most=Cost(*(counted * it for it in its.most)))
+            rows = tuple(_times(it, counted) for it in procedure.rows)
+            scaled = procedure._replace(rows=rows, most=Cost(*(counted * it for it in procedure.most)))
             found += [Call(row.line, scaled, counted, row.each.cycles), *calls_of(scaled, procedures, most - len(found) - 1)]
     return found

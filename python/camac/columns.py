@@ -51,10 +51,9 @@ def read_cut(text: str, what: str = "a gate or a region") -> Tuple[str, int, int
 def gather(
     inputs: Inputs, plan: Plan, services: List[Service], program: Optional[File] = None, responses: Sequence[Response] = (), naming: Optional[Naming] = None,
 ) -> Run:
-    """A run as `collect` gives it, with what is asked of its words, and with its record compared. Answers show the words of each module, so the names of a
-    script are used for an event file alone, and for what is asked.
-
-    Raises as `collect`, UsageFault if a name is none of a column, and WordsFault."""
+    """A run as `collect` gives it, with what is asked of its words, and with its record compared. Answers show the words of each module, so the names
+    of a script are used for an event file alone, and for what is asked. Raises as `collect`, UsageFault if a name is none of a column, and
+    WordsFault."""
     is_named = naming and (naming._replace(bins=None) != Naming() or is_event_file(inputs.source))
     names = camac.words_of_script(plan, inputs.script, services) if is_named else Words()
     if naming and naming.file is not None:

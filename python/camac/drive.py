@@ -9,13 +9,13 @@ from typing import TYPE_CHECKING, List, NamedTuple, NoReturn, Optional, Protocol
 
 from camac.contradictions import seen_of
 from camac.printed import REFUSAL, read_end, read_request
-from camac.signals import Signals
 from camac.values import Ending, Refusal, Request, RunEnd
 
 if TYPE_CHECKING:
     import subprocess
 
     from camac.record import Recording
+    from camac.signals import Signals
 
 File = Union[str, bytes, "os.PathLike[str]", "os.PathLike[bytes]"]
 GREATEST_LINE = 4096
@@ -175,13 +175,7 @@ def branch_of(branch: Union[Branch, str], plan: File) -> Branch:
 
 
 def drive(
-    plan: File,
-    script: File,
-    branch: Union[Branch, str],
-    events: File,
-    *,
-    program: Optional[File] = None,
-    timeout: Optional[float] = None,
+    plan: File, script: File, branch: Union[Branch, str], events: File, *, program: Optional[File] = None, timeout: Optional[float] = None,
     record: "Union[File, Recording, None]" = None,
 ) -> RunEnd:
     """Plays a script against a branch, and returns how the run ended. `branch` may also be the name of a driver, as "mcstd:libhyt1331.so"
@@ -216,6 +210,8 @@ def drive(
         if not library.is_there():
             raise
         return library.play(plan, script, branch, events)
+    from camac.signals import Signals
+
     with Signals() as signals, _Program([found, "drive", "--", plan, script, events], timeout) as started:
         run = _Run(started, branch, signals)
         try:
@@ -229,7 +225,7 @@ def drive(
 class Lockouts:
     """The lockouts that a branch holds in a run."""
 
-    def __init__(self, branch: Branch, signals: Signals) -> None:
+    def __init__(self, branch: Branch, signals: "Signals") -> None:
         self.branch, self.signals = branch, signals
         self.held: List[int] = []
 
@@ -273,7 +269,7 @@ class Lockouts:
 class _Run:
     """A run in progress: the program, the branch, and the crates whose lockout is held."""
 
-    def __init__(self, program: "_Program", branch: Branch, signals: Signals) -> None:
+    def __init__(self, program: "_Program", branch: Branch, signals: "Signals") -> None:
         self.program, self.branch, self.lockouts, self.seen = program, branch, Lockouts(branch, signals), seen_of(branch)
         self.is_open = True
 

@@ -13,14 +13,7 @@ GREATEST_GL = 24
 GREATEST_COUNT = 4096
 GREATEST_WORD = 0xFF_FFFF
 MEANINGS = {
-    "V1": "header",
-    "V2": "marker",
-    "V3": "GL number",
-    "V4": "event number",
-    "V5": "count",
-    "V6": "word",
-    "V7": "truncated",
-    "V9": "X count",
+    "V1": "header", "V2": "marker", "V3": "GL number", "V4": "event number", "V5": "count", "V6": "word", "V7": "truncated", "V9": "X count"
 }
 # The bytes of one read.
 BLOCK = 65_536

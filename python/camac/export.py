@@ -122,18 +122,12 @@ class Series(NamedTuple):
     title: str = ""
 
 
-class Begin(NamedTuple):
-    """Where a piece of a file begins: the number of its first event, and the row of its first word."""
-
-    event: int = 1
-    row: int = 0
-
-
-def tables(events: EventArrays, about: About, begin: Begin = Begin()) -> List[Series]:
-    """The columns of an event file, or of a piece of one: those of its events, then those of its words."""
+def tables(events: EventArrays, about: About, number: int = 1, row: int = 0) -> List[Series]:
+    """The columns of an event file, or of a piece of one, with the number of its first event and the row of its first word: those of its events, then
+    those of its words."""
     numpy = importlib.import_module("numpy")
     counts = numpy.diff(events.first)
-    numbers = numpy.arange(begin.event, begin.event + len(counts), dtype="u4")
+    numbers = numpy.arange(number, number + len(counts), dtype="u4")
     found = [Series("events", "event", numpy.copy(numbers), "", NUMBER), Series("events", "gl", events.gl, "", GL)]
     if events.cycles is not None:
         found.append(Series("events", "cycles", events.cycles, "dataway cycles", "with those of auxiliary controllers"))
@@ -143,7 +137,7 @@ def tables(events: EventArrays, about: About, begin: Begin = Begin()) -> List[Se
     places -= numpy.repeat((events.first[:-1] - 1).astype("u4"), counts)
     of_words = [numpy.repeat(it, counts) for it in (numbers, events.gl)]
     found += [
-        Series("events", "first", events.first[:-1].astype("i8") + begin.row, "", "the row of its first word, from 0"),
+        Series("events", "first", events.first[:-1].astype("i8") + row, "", "the row of its first word, from 0"),
         Series("events", "count", counts.astype("u2"), "", "how many words it has"),
         Series("words", "event", of_words[0], "", NUMBER),
         Series("words", "gl", of_words[1], "", GL),
@@ -212,12 +206,12 @@ class Reading:
 
     def series(self, about: About) -> Iterator[List[Series]]:
         """The columns of each piece; there is one at least."""
-        begin = Begin()
+        number, row = 1, 0
         for events in self.pieces():
             arrays = events if isinstance(events, EventArrays) else arrays_of(events, is_new(self.events))
-            if len(arrays.gl) or begin == Begin():
-                yield tables(arrays, about, begin)
-            begin = Begin(begin.event + len(arrays.gl), begin.row + len(arrays.words))
+            if len(arrays.gl) or number == 1:
+                yield tables(arrays, about, number, row)
+            number, row = number + len(arrays.gl), row + len(arrays.words)
 
 
 def files_of(out: str) -> List[str]:

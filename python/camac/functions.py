@@ -1,23 +1,9 @@
 """The functions of a CAMAC command (EUR 4100, IEEE 583): names, and what they do to data."""
 
 NAMES = {
-    0: "read group 1",
-    1: "read group 2",
-    2: "read and clear group 1",
-    3: "read complement of group 1",
-    8: "test LAM",
-    9: "clear group 1",
-    10: "clear LAM",
-    11: "clear group 2",
-    16: "overwrite group 1",
-    17: "overwrite group 2",
-    18: "selective set group 1",
-    19: "selective set group 2",
-    21: "selective clear group 1",
-    23: "selective clear group 2",
-    24: "disable",
-    25: "execute",
-    26: "enable",
+    0: "read group 1", 1: "read group 2", 2: "read and clear group 1", 3: "read complement of group 1", 8: "test LAM", 9: "clear group 1",
+    10: "clear LAM", 11: "clear group 2", 16: "overwrite group 1", 17: "overwrite group 2", 18: "selective set group 1",
+    19: "selective set group 2", 21: "selective clear group 1", 23: "selective clear group 2", 24: "disable", 25: "execute", 26: "enable",
     27: "test status",
 }
 

@@ -7,7 +7,7 @@ from camac.printed import read_explanations
 from camac.program import advice_on, output_of
 from camac.texts import TextFile
 from camac.values import Explanation, Service
-from camac.warn import look, looks_for_all
+from camac.warn import look
 
 if TYPE_CHECKING:
     from camac.loops.proposals import Proposal
@@ -19,6 +19,8 @@ FORMATS = ("text", "json", "github", "sarif")
 LEVELS = {"refused": "error", "fault": "error", "warning": "warning", "written": "notice", "proposed": "notice", "remaining": "error"}
 # The characters that GitHub wants escaped in a message, and in a property.
 MESSAGE, PROPERTY = "%\r\n", "%\r\n:,"
+# How an explanation ends of a script in the place of the plan, or a plan in that of the script.
+SWAPPED = "PLAN comes first, then SCRIPT"
 
 
 class Found(NamedTuple):
@@ -50,42 +52,34 @@ class Judged(NamedTuple):
 
     def text(self) -> str:
         """For people, and for editors that look for FILE:LINE: or FILE:LINE:COLUMN:."""
-        its = []
-        for it in self.found:
-            place = ":".join([self.file, *(str(number) for number in (it.line, it.column) if number is not None)])
-            its.append(f"{place}: {it.title()}: {it.text}\n")
-        return "".join(its)
+        places = (":".join([self.file, *(str(number) for number in (it.line, it.column) if number is not None)]) for it in self.found)
+        return "".join(f"{place}: {it.title()}: {it.text}\n" for place, it in zip(places, self.found))
 
     def github(self) -> str:
         """For GitHub, which shows it at the line (workflow commands)."""
-        its = []
+        lines = []
         for it in self.found:
             numbers = ",".join(f"{name}={number}" for name, number in (("line", it.line), ("col", it.column)) if number is not None)
             place = f"file={_escaped(self.file, PROPERTY)}" + (f",{numbers}" if numbers else "")
             message = _escaped("\n".join([it.text, *it.explanation]), MESSAGE)
-            its.append(f"::{LEVELS[it.kind]} {place},title={it.title()}::{message}\n")
-        return "".join(its)
+            lines.append(f"::{LEVELS[it.kind]} {place},title={it.title()}::{message}\n")
+        return "".join(lines)
 
     def value(self) -> Dict[str, object]:
         """For JSON."""
-        accepted = self.status() == ACCEPTED
-        return {
-            "file": self.file,
-            "accepted": accepted,
-            "found": [it._asdict() for it in self.found],
-            "services": [it._asdict() for it in self.services],
-        }
+        found, services = [it._asdict() for it in self.found], [it._asdict() for it in self.services]
+        return {"file": self.file, "accepted": self.status() == ACCEPTED, "found": found, "services": services}
 
 
 def judge(plan: str, scripts: Sequence[str], program: Optional[File] = None, writes: bool = False, keeps: bool = False) -> List[Judged]:
     """Judges scripts on a plan. If `keeps`, what helps the loops of a refused script is proposed; if `writes`, the least headings are put into each
     script before, and with `keeps` what its loops need. A plan that is refused or cannot be read is reported alone, since no script can be
     judged then."""
-    its = TextFile(plan, is_plan=True)
-    found = _faults(lambda: _look_at_plan(its, program), [its], program)
+    plan_file = TextFile(plan, is_plan=True)
+    found = _faults(lambda: _look_at_plan(plan_file, program), [plan_file])
     if found:
         return [Judged(plan, found, [])]
-    return [_judge_script(its, it, program, writes, keeps) for it in scripts]
+    return [_judge_script(plan_file, it, program, writes, keeps) for it in scripts]
 
 
 def _look_at_plan(plan: TextFile, program: Optional[File]) -> List[Found]:
@@ -108,7 +102,7 @@ def _judge_script(plan: TextFile, name: str, program: Optional[File], writes: bo
             written.extend(_changes("written", write_keeps(plan, name, program)))
         # What no heading fixes is found below.
         with contextlib.suppress(Refused):
-            written.extend(Found("written", it.line, None, it.heading) for it in write_headings(plan, name, program))
+            written.extend(_changes("written", write_headings(plan, name, program)))
         return []
 
     def judged() -> List[Found]:
@@ -118,11 +112,11 @@ def _judge_script(plan: TextFile, name: str, program: Optional[File], writes: bo
         return [Found("warning", it.line, it.code.value, it.text) for it in warned]
 
     files = [plan, script]
-    found = (_faults(write, files, program) if writes else []) or _faults(judged, files, program)
+    found = (_faults(write, files) if writes else []) or _faults(judged, files)
     if writes:
         found = [it for it in found if it.code not in OF_HEADINGS] or found
     is_refused = any(it.kind == "refused" for it in found)
-    proposed = _faults(lambda: _proposed(plan, script, program), files, program) if keeps and is_refused else []
+    proposed = _faults(lambda: _proposed(plan, script, program), files) if keeps and is_refused else []
     return Judged(name, [*written, *found, *proposed], services)
 
 
@@ -138,7 +132,7 @@ def _changes(kind: str, proposals: "Sequence[Proposal]") -> List[Found]:
     return [Found(kind, it.line, None, it.text) for it in proposals]
 
 
-def _faults(call: Callable[[], List[Found]], files: List[TextFile], program: Optional[File]) -> List[Found]:
+def _faults(call: Callable[[], List[Found]], files: List[TextFile]) -> List[Found]:
     """What a call finds in files, or the refusal or fault that ends it."""
     try:
         return call()
@@ -154,12 +148,12 @@ def _faults(call: Callable[[], List[Found]], files: List[TextFile], program: Opt
         return [Found("fault", None, None, str(fault.strerror or fault))]
 
 
-def _refused(plan: TextFile, its: Explanation) -> Found:
-    code, line, rule, column = its.refusal
+def _refused(plan: TextFile, explained: Explanation) -> Found:
+    code, line, rule, column = explained.refusal
     if line is None:
-        line, column = _place_in_plan(plan, its.sentence)
-    text = f"{rule} ({SWAPPED})" if its.sentence.endswith(f"{SWAPPED}.") else rule
-    return Found("refused", line, code, text, its.lines, column)
+        line, column = _place_in_plan(plan, explained.sentence)
+    text = f"{rule} ({SWAPPED})" if any(it.endswith(f"{SWAPPED}.") for it in explained.lines) else rule
+    return Found("refused", line, code, text, explained.lines, column)
 
 
 def _place_in_plan(plan: TextFile, sentence: str) -> Tuple[int, int]:
@@ -200,11 +194,3 @@ def status(judged: Sequence[Judged], is_strict: bool) -> int:
     return max(worst, REFUSED) if is_strict and any(found.kind == "warning" for it in judged for found in it.found) else worst
 
 
-# How an explanation ends of a script in the place of the plan, or a plan in that of the script.
-SWAPPED = "PLAN comes first, then SCRIPT"
-NO_COSTS = "this program has no `tell`, so most warnings are not looked for"
-
-
-def note(program: Optional[File] = None) -> Optional[str]:
-    """The note on warnings that this program cannot give."""
-    return None if looks_for_all(program) else NO_COSTS

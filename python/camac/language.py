@@ -2,13 +2,12 @@
 import enum
 from typing import Dict, Tuple
 
-# What makes cycles: one of a function, many of one, and the calls of a crate and of a LAM, of which some have `on` or `off` behind them.
+# What makes cycles: one of a function, many of one, and the calls of a crate and of a LAM.
 SINGLE = frozenset(("cfsa", "cssa"))
 TRANSFERS = frozenset(("cfmad", "cfubc", "cfubr"))
 OF_FUNCTIONS = SINGLE | TRANSFERS
 CRATE_CALLS = frozenset(("cccz", "cccc", "ctci", "ctcd", "ctgl", "ccci", "cccd"))
 LAM_CALLS = frozenset(("cclm", "cclc", "ctlm"))
-SWITCHED = frozenset(("ccci", "cccd", "cclm"))
 CYCLES = SINGLE | CRATE_CALLS | LAM_CALLS
 # What begins a body, a declaration, and a statement; `table` begins a declaration where it names one.
 BODIES = frozenset(("service", "proc"))

@@ -13,10 +13,6 @@ TIGHT = frozenset(("(", ")", ",", "..", "{", "}"))
 # A procedure's name is before its bracket without a blank.
 CALLED = re.compile(r"(?<!\S)((?:call|proc) \S+) \(")
 BEGIN = DECLARATIONS | STATEMENTS | {"}"}
-# What ends a statement that is laid out as a whole, besides the end of its line; and its greatest length.
-BREAKS = BEGIN | {"table", "=", "{"}
-SHORT = 80
-ENDS = (["}"], ["}", "else", "{"])
 
 
 class LayoutFault(Exception):
@@ -28,15 +24,13 @@ class LayoutFault(Exception):
 
 
 class Piece(NamedTuple):
-    """A token, a comment, or a statement, a head or an end of a block that is on a line alone; its line, how many lines ended between it and what
-    is before it, whether it begins a line of the layout, and whether it is all of it."""
+    """A token or a comment; its line, how many lines ended between it and what is before it, and whether it begins a line of the layout."""
 
     text: str
     is_comment: bool
     line: int
     ended: int
     begins: bool
-    is_whole: bool
 
 
 class Line(NamedTuple):
@@ -69,57 +63,19 @@ def _kept(rows: List[Row]) -> Tuple[List[str], List[str]]:
 def _pieces(rows: List[Row], tokens: List[str]) -> Iterator[Piece]:
     """The parts of a text, of these tokens, that are laid out. Raises LayoutFault at a byte that begins no token."""
     bad = {it for it in set(tokens) if not is_token(it)}
-    at, ended, is_next = 0, 1, True
+    at, ended = 0, 1
     for line, (words, comment) in enumerate(rows, 1):
         if bad and not bad.isdisjoint(words):
             sign = next(it for it in words if it in bad)
             shown = sign if sign.isascii() and sign.isprintable() else f"0x{ord(sign):02x}"
             raise LayoutFault(line, f"the byte `{shown}` begins no token")
-        if words:
-            end = at + len(words)
-            is_this, is_next = is_next, end == len(tokens) or is_first(tokens, end)
-            # An empty block is behind its head.
-            is_block = words[-1] != "{" or bool(comment) or tokens[end : end + 1] != ["}"]
-            code = _whole(words) if is_this and is_next and is_block else ""
-            if code:
-                yield Piece(code, False, line, ended, True, True)
-            else:
-                for text, is_begin in _parts_of_row(tokens, at, end):
-                    yield Piece(text, False, line, ended, is_begin, False)
-                    ended = 0
-            at, ended = end, 0
+        for word in words:
+            yield Piece(word, False, line, ended, is_first(tokens, at))
+            at, ended = at + 1, 0
         if comment:
-            yield Piece(comment, True, line, ended, False, False)
+            yield Piece(comment, True, line, ended, False)
             ended = 0
         ended += 1
-
-
-def _whole(words: List[str]) -> str:
-    """A line's tokens with the blanks between them, if they are one statement, or a head or an end of a block, and short enough; else nothing."""
-    if words[0] == "}":
-        return " ".join(words) if words in ENDS else ""
-    # What assigns has one `=` behind a name, and so has `for`.
-    first = 2 if words[1:2] == ["="] else 3 if words[0] == "for" and words[2:3] == ["="] else 1
-    is_head = words[-1] == "{" and len(words) > first
-    if not BREAKS.isdisjoint(words[first : len(words) - is_head]) or words[-1] in NO_ASSIGNMENT or words[0] == "{":
-        return ""
-    code = _spaced(words)
-    return code if len(code) <= SHORT else ""
-
-
-def _parts_of_row(tokens: List[str], start: int, end: int) -> Iterator[Tuple[str, bool]]:
-    """The parts of a line, given as its tokens, and whether each begins a line of the layout: heads and statements that end here as a whole, else
-    each token."""
-    for place in [at for at in range(start, end) if tokens[at] in "{}"] + [end]:
-        is_ended = place == len(tokens) or tokens[place] == "{" or is_first(tokens, place)
-        code = _whole(tokens[start:place]) if place > start and is_ended and is_first(tokens, start) else ""
-        if code:
-            yield code, True
-        else:
-            yield from ((tokens[at], is_first(tokens, at)) for at in range(start, place))
-        if place < end:
-            yield tokens[place], is_first(tokens, place)
-        start = place + 1
 
 
 def begins(tokens: Sequence[str]) -> Iterator[bool]:
@@ -152,11 +108,11 @@ class _Layout:
         ends: List[Optional[int]] = [None] * len(self.pieces)
         open_at: List[int] = []
         for at, it in enumerate(self.pieces):
-            if it.text[0] == "}":
+            if it.text == "}":
                 if not open_at:
                     raise LayoutFault(it.line, "this `}` closes nothing")
                 ends[open_at.pop()] = at
-            if it.text[-1] == "{" and not it.is_comment:
+            if it.text == "{":
                 open_at.append(at)
             if len(open_at) > GREATEST_DEPTH:
                 raise LayoutFault(it.line, f"more than {GREATEST_DEPTH} open `{{`: deeper than a script may be")
@@ -167,14 +123,7 @@ class _Layout:
     def lines(self) -> List[Line]:
         at = 0
         while at < len(self.pieces):
-            it = self.pieces[at]
-            if it.is_whole:
-                self.depth -= it.text[0] == "}"
-                self.add(it.text, "", it.ended)
-                self.depth += it.text[-1] == "{"
-                at += 1
-            else:
-                at = self.comment(at) if it.is_comment else self.statement(at)
+            at = self.comment(at) if self.pieces[at].is_comment else self.statement(at)
         return self.made
 
     def add(self, code: str, comment: str, ended: int, more: int = 0) -> None:

@@ -20,7 +20,7 @@ from camac.values import Ending, RunEnd
 from camac.native import BUSY, EVENT_WORDS, LONG, MISUSE, NO_MEMORY, OK, OVERRUN, REFUSED, SPENT, WRITE, Progress, Want
 from camac.native import BLOCK as BLOCK, Q_REPEAT as Q_REPEAT, Q_STOP as Q_STOP, SCAN as SCAN, WRITES as WRITES
 from camac.native import CYCLE as CYCLE, DEMAND as DEMAND, LOCK as LOCK, NO_DATA as NO_DATA, NO_LIMIT as NO_LIMIT, READ as READ, STOPPED as STOPPED
-from camac.native import is_there as is_there
+from camac.native import is_there as is_there, version as version
 from camac.output import holds_bytes
 from camac.program import IN_PROCESS, Verdict, settings
 from camac.texts import plan_text, script_text
@@ -98,11 +98,6 @@ class Overrun(Exception):
         self.crate, self.wait = crate, wait
 
 
-def version() -> str:
-    """The version of the library."""
-    return native.version_text(native.load().texts.camac_version())
-
-
 def _test(call: str, code: int, *others: int) -> None:
     """Raises the fault of a call, unless it went well, or its code is one of the others."""
     if code == OK or code in others:
@@ -143,15 +138,15 @@ class _Buffer:
 
 def _filled(call: Any, *given: Any, buffers: int = 1, room: int = ROOM) -> Tuple[int, List[bytes]]:
     """Calls with buffers, and once more with greater ones if one was too small. Returns the code and what was written."""
-    its = [_Buffer(room) for _ in range(buffers)]
+    rooms = [_Buffer(room) for _ in range(buffers)]
     while True:
-        code, name = call(*given, *(word for it in its for word in it.words())), call.__name__.replace("camac_", "")
+        code, name = call(*given, *(word for it in rooms for word in it.words())), call.__name__.replace("camac_", "")
         if code == MISUSE:
             raise UsageFault(MISUSED.format(name), 2)
         _test(name, code, REFUSED)
-        if all(it.is_whole() for it in its):
-            return code, [it.text() for it in its]
-        its = [_Buffer(max(it.room, it.size.value)) for it in its]
+        if all(it.is_whole() for it in rooms):
+            return code, [it.text() for it in rooms]
+        rooms = [_Buffer(max(it.room, it.size.value)) for it in rooms]
 
 
 def _verdict(call: Any, *given: Any, room: int = ROOM) -> Verdict:
@@ -231,11 +226,11 @@ def run(plan: Text, script: Text, answers: Text) -> Tuple[Verdict, bytes]:
 
 def _answers(given: Sequence[Answer]) -> Any:
     """Answers as C has them, and one more."""
-    its = (native.AnswerStruct * (len(given) + 1))()
+    structs = (native.AnswerStruct * (len(given) + 1))()
     for i, (x, q, word, wait, gl) in enumerate(given):
-        its[i].size = native.ANSWER_SIZE
-        native.write_answer(its, i * native.ANSWER_SIZE + native.BEHIND_SIZE, word, gl, x, q, wait)
-    return its
+        structs[i].size = native.ANSWER_SIZE
+        native.write_answer(structs, i * native.ANSWER_SIZE + native.BEHIND_SIZE, word, gl, x, q, wait)
+    return structs
 
 
 class Session:
@@ -291,11 +286,11 @@ class Session:
         """`next` of one answer after the other, up to one that leaves an event, ends the run by an overrun, makes it pause or is not taken. Returns what each did, the
         overrun too. Raises what `next` raises if the first is not taken."""
         given, at, taken = list(answers), 0, c_size_t()
-        its, did = _answers(given), (Progress * (len(given) + 1))()
+        structs, did = _answers(given), (Progress * (len(given) + 1))()
         while True:
             self._lines = b""
             did[at].size = ctypes.sizeof(Progress)
-            code = self._calls.camac_next_many(self._at, byref(its[at]), byref(did[at]), len(given) - at, byref(taken))
+            code = self._calls.camac_next_many(self._at, byref(structs[at]), byref(did[at]), len(given) - at, byref(taken))
             at += taken.value
             if taken.value and code == BUSY:
                 code = self._go_through(did[at - 1])
@@ -350,16 +345,16 @@ class Session:
         _test(call, code, OVERRUN)
         return code
 
-    def _go_through(self, its: Progress) -> int:
+    def _go_through(self, progress: Progress) -> int:
         """Goes on after each pause, unless the caller has set a limit, and adds what the run did. Returns the code behind them."""
-        code, more, last = BUSY, Progress(), its
+        code, more, last = BUSY, Progress(), progress
         to_more = byref(more)
         while code == BUSY and self._is_whole:
             if last.kind or last.first_unlocked:
                 self._lines += self._bytes(self._calls.camac_item)
             code, last = self._calls.camac_go_on(self._at, to_more), more
             if more.first_unlocked or more.event:
-                its.add(more)
+                progress.add(more)
         _test("go_on", code, BUSY)
         return code
 
@@ -427,9 +422,9 @@ class Session:
         """The services of the script, in its order."""
         found = []
         for number in range(self._calls.camac_services(self._at)):
-            its = native.ServiceStruct()
-            _test("services", self._calls.camac_service(self._at, number + 1, byref(its)))
-            found.append(ServiceInfo(its.name.decode(), *(getattr(its, name) for name in ServiceInfo._fields[1:])))
+            struct = native.ServiceStruct()
+            _test("services", self._calls.camac_service(self._at, number + 1, byref(struct)))
+            found.append(ServiceInfo(struct.name.decode(), *(getattr(struct, name) for name in ServiceInfo._fields[1:])))
         return found
 
     def abandon(self) -> Tuple[int, ...]:
@@ -459,15 +454,8 @@ class Session:
 
 
 def play(
-    plan: File,
-    script: File,
-    branch: Union[Branch, str],
-    events: Optional[File] = None,
-    *,
-    program: Optional[File] = None,
-    timeout: Optional[float] = None,
-    record: "Union[File, Recording, None]" = None,
-    on_fault: Optional[OnFault] = None,
+    plan: File, script: File, branch: Union[Branch, str], events: Optional[File] = None, *, program: Optional[File] = None,
+    timeout: Optional[float] = None, record: "Union[File, Recording, None]" = None, on_fault: Optional[OnFault] = None,
 ) -> RunEnd:
     """Plays a script against a branch, as `camac.drive` does, but in this process. `plan` may be "@sample". The event file is `events`, which
     must not hold bytes; without it none is written. Each event is there before the next operation is made. `record` is that of
@@ -635,9 +623,9 @@ def _event_file(path: Optional[File]) -> Iterator[Optional[Callable[[bytes], Non
     with _writes(path):
         file = open(path, "ab", buffering=0)
     with file:
-        its = os.fstat(file.fileno())
-        is_file = stat.S_ISREG(its.st_mode)
-        if is_file and its.st_size:
+        status = os.fstat(file.fileno())
+        is_file = stat.S_ISREG(status.st_mode)
+        if is_file and status.st_size:
             raise file_fault("write", path, "it holds bytes; a live run needs a file of its own")
         write = functools.partial(_write, path, file)
         write(NEW_FILE)

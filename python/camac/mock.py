@@ -119,15 +119,8 @@ class Adc(_Channels):
     `hits` is the share of channels that are hit, from 0 to 1; `spread` is the standard deviation of pedestal and peak."""
 
     def __init__(
-        self,
-        channels: int = 12,
-        width: int = 12,
-        pedestal: float = 100.0,
-        peak: float = 1800.0,
-        spread: float = 20.0,
-        hits: float = 0.3,
-        seed: int = 1,
-        lam_at: Optional[int] = 12,
+        self, channels: int = 12, width: int = 12, pedestal: float = 100.0, peak: float = 1800.0, spread: float = 20.0, hits: float = 0.3,
+        seed: int = 1, lam_at: Optional[int] = 12,
     ) -> None:
         super().__init__(channels, lam_at)
         self.greatest = (1 << width) - 1
@@ -277,10 +270,7 @@ class MockBranch:
     of the crate. A crate whose demand output is disabled adds no bits to a demand, and in one with inhibit nothing is triggered."""
 
     def __init__(
-        self,
-        modules: Mapping[Place, Module],
-        gl: Mapping[Place, int],
-        triggers: Iterable[Iterable[Place]] = (),
+        self, modules: Mapping[Place, Module], gl: Mapping[Place, int], triggers: Iterable[Iterable[Place]] = (),
         auxiliaries: Optional[Mapping[int, Auxiliary]] = None,
     ) -> None:
         self.modules, self.gl = dict(modules), dict(gl)
@@ -387,19 +377,8 @@ class Faulty:
     silent_after       so many operations are answered; then each one raises TimeoutError, as a controller that does not answer"""
 
     def __init__(
-        self,
-        branch: Branch,
-        *,
-        seed: int = 1,
-        no_x: float = 0.0,
-        no_q: float = 0.0,
-        flip: float = 0.0,
-        stuck_1: int = 0,
-        stuck_0: int = 0,
-        ghost: float = 0.0,
-        ghost_gl: int = 0,
-        long_wait: float = 0.0,
-        silent_after: Optional[int] = None,
+        self, branch: Branch, *, seed: int = 1, no_x: float = 0.0, no_q: float = 0.0, flip: float = 0.0, stuck_1: int = 0, stuck_0: int = 0,
+        ghost: float = 0.0, ghost_gl: int = 0, long_wait: float = 0.0, silent_after: Optional[int] = None,
     ) -> None:
         self.branch, self.random, self.unlock = branch, random.Random(seed), branch.unlock
         self.shares = {"no_x": no_x, "no_q": no_q, "flip": flip, "ghost": ghost, "long_wait": long_wait}

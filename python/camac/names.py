@@ -133,14 +133,14 @@ class Names:
         body = self.blocks.index(block) if block else SCRIPT
         found: Dict[str, Kind] = {}
         for it in self.mentions:
-            its = it.symbol
+            symbol = it.symbol
             if it.start >= place:
                 break
-            if not it.declares or its.body not in (SCRIPT, body):
+            if not it.declares or symbol.body not in (SCRIPT, body):
                 continue
-            if its.kind is VARIABLE and block and not block.is_service or its.kind is PROCEDURE and block and its.name == block.name:
+            if symbol.kind is VARIABLE and block and not block.is_service or symbol.kind is PROCEDURE and block and symbol.name == block.name:
                 continue
-            found[its.name] = its.kind
+            found[symbol.name] = symbol.kind
         return found
 
 
@@ -157,7 +157,7 @@ def fault_of_new_name(names: Names, symbol: Symbol, new: str) -> Optional[str]:
     if new in WORDS:
         return f"`{new}` is a word of the language"
     for it in names.mentions:
-        its = it.symbol
-        if its.name == new and (SCRIPT in (its.body, symbol.body) or its.body == symbol.body):
-            return f"`{new}` is in the script already, as a {its.kind.value}"
+        other = it.symbol
+        if other.name == new and (SCRIPT in (other.body, symbol.body) or other.body == symbol.body):
+            return f"`{new}` is in the script already, as a {other.kind.value}"
     return None

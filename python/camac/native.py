@@ -52,11 +52,8 @@ class Want(_Sized):
     `last_n` and `last_a`, the most `cycles`, and the most `words` with Q = 1."""
 
     _fields_ = [
-        ("size", c_uint32),
-        *_fields(c_uint8, "kind c n a f data waits width"),
-        ("word", c_uint32),
-        *_fields(c_uint8, "mode last_n last_a unused"),
-        *_fields(c_uint32, "cycles words spare"),
+        ("size", c_uint32), *_fields(c_uint8, "kind c n a f data waits width"), ("word", c_uint32),
+        *_fields(c_uint8, "mode last_n last_a unused"), *_fields(c_uint32, "cycles words spare"),
     ]
 
 
@@ -102,9 +99,7 @@ class ServiceStruct(_Sized):
     """A service of the script, as C has it."""
 
     _fields_ = [
-        ("size", c_uint32),
-        ("name", c_char * 36),
-        *_fields(c_uint32, "c n a gl line cycles words steps most_cycles most_words"),
+        ("size", c_uint32), ("name", c_char * 36), *_fields(c_uint32, "c n a gl line cycles words steps most_cycles most_words"),
         ("spare", c_uint32 * 4),
     ]
 
@@ -119,11 +114,8 @@ class Calls(NamedTuple):
 
 _TEXT, _BUFFER, _SESSION = [c_char_p, c_size_t], [c_char_p, c_size_t, POINTER(c_size_t)], POINTER(SessionStruct)
 _OF_TEXTS: Dict[str, List[Any]] = {
-    "tell": [c_uint32, *_TEXT, *_TEXT, *_BUFFER],
-    "events": [*_TEXT, *_BUFFER],
-    "explain_at": [*_TEXT, *_TEXT, c_uint32, c_uint32, *_BUFFER],
-    "response": [*_TEXT, *_TEXT, *_TEXT, *_TEXT, *_BUFFER],
-    "run": [*_TEXT, *_TEXT, *_TEXT, *_BUFFER, *_BUFFER],
+    "tell": [c_uint32, *_TEXT, *_TEXT, *_BUFFER], "events": [*_TEXT, *_BUFFER], "explain_at": [*_TEXT, *_TEXT, c_uint32, c_uint32, *_BUFFER],
+    "response": [*_TEXT, *_TEXT, *_TEXT, *_TEXT, *_BUFFER], "run": [*_TEXT, *_TEXT, *_TEXT, *_BUFFER, *_BUFFER],
     "open": [_SESSION, *_TEXT, *_TEXT, *_BUFFER],
 }
 _OF_SESSIONS: Dict[str, List[Any]] = {
@@ -165,8 +157,13 @@ def loaded() -> str:
     load()
     with open("/proc/self/maps", encoding="utf-8", errors="surrogateescape") as lines:
         places = [line.rstrip("\n").partition("/") for line in lines]
-    its = find_library()
-    return its if os.path.isabs(its) else next((f"/{place}" for _, _, place in places if os.path.basename(place) == os.path.basename(its)), its)
+    file = find_library()
+    return file if os.path.isabs(file) else next((f"/{place}" for _, _, place in places if os.path.basename(place) == os.path.basename(file)), file)
+
+
+def version() -> str:
+    """The version of the library."""
+    return version_text(load().texts.camac_version())
 
 
 def version_text(number: int) -> str:

@@ -27,11 +27,10 @@ def output(path: Optional[str], rule: Rule) -> Iterator[TextIO]:
 
 @contextlib.contextmanager
 def bytes_output(path: Optional[str], rule: Rule) -> Iterator[BinaryIO]:
-    """A file to write, as it goes; None is standard output. A device or a pipe is written into. Else a new file is made beside the place that
-    `path` leads to, and takes it at the end of the block, if by the rule what is there may be lost, at the begin and at the end. Where the
-    block fails it is removed, and what was there stays.
-
-    Raises OSError with the name if it cannot be written, what the rule raises, and BrokenPipeError if the reader of a pipe closed it."""
+    """A file to write, as it goes; None is standard output. A device or a pipe is written into. Else a new file is made beside the place that `path`
+    leads to, and takes it at the end of the block, if by the rule what is there may be lost, at the begin and at the end. Where the block fails it is
+    removed, and what was there stays. Raises OSError with the name if it cannot be written, what the rule raises, and BrokenPipeError if the reader
+    of a pipe closed it."""
     opened: ContextManager[BinaryIO]
     if path is None:
         if sys.stdout is None:

@@ -78,26 +78,21 @@ class Form(Generic[T]):
 Fields = Form[Dict[str, Any]]
 
 
-def _body(cycles: int, words: int, steps: int, of_cycles: int, of_words: int, of_steps: Optional[int], **its: Any) -> Body:
-    return Body(most=Cost(cycles, words, steps), annotated=(of_cycles, of_words, of_steps), rows=(), **its)
-
-
-def _declaration(first: int, last: Optional[int], **its: Any) -> Declaration:
-    return Declaration(first=first, last=first if last is None else last, **its)
-
-
 SERVICE = Form(Service, "service {name:word} gl {gl} cycles {cycles} of {annotated_cycles} words {words} of {annotated_words} steps {steps}")
 HEADING = Form(Heading, r"{is_service:head} {name:word}(?:\(.*\))? within {cycles} cycles event {words} words(?: steps {steps})?", has_line=True)
 RESPONSE = Form(Response, r"service {name:word} gl {gl} cycles {cycles} (?:once|every {every}) start {start:maybe} end {end:maybe}(?: of \d+)? longest {longest:maybe}{clears_twice:twice}")
 UNKEPT = Form(Unkept, "unkept {name:word} line {line}: {why:harm}(?: {other:word})?")
-BODY = Form(
-    _body,
-    r"{kind:kind} {name:word} line {line}(?: gl {gl} at \d+ \d+ \d+)? cycles {cycles} of {of_cycles} words {words} of {of_words} steps {steps}(?: of {of_steps})?",
+BODY: "Form[Body]" = Form(
+    lambda cycles, words, steps, of_c, of_w, of_s, **of: Body(most=Cost(cycles, words, steps), annotated=(of_c, of_w, of_s), rows=(), **of),
+    r"{kind:kind} {name:word} line {line}(?: gl {gl} at \d+ \d+ \d+)? cycles {cycles} of {of_c} words {words} of {of_w} steps {steps}(?: of {of_s})?",
 )
 ROW = Form(Row, "line {line}(?: column {column})? depth {depth} {word:name} times {times} {each:each} share {share:cost}{about:about}")
 BUFFER = Form(lambda words: Plan(words, {}, ()), "buffer {words}")
 TYPE = Form(ModuleType, "type {name:name} commands {commands} probes {probes}")
-DECLARATION = Form(_declaration, "command f {function} a {first}(?: to {last})?(?: width {width})?{is_probe:probe}{clears:clears}")
+DECLARATION: "Form[Declaration]" = Form(
+    lambda first, last, **of: Declaration(first=first, last=first if last is None else last, **of),
+    "command f {function} a {first}(?: to {last})?(?: width {width})?{is_probe:probe}{clears:clears}",
+)
 CRATE = Form(Crate, "crate {number} waits {waits}")
 STATION = Form(Station, "station {number} {type:name} gl {gl:maybe}")
 AT = Form(lambda move, **at: (Command(**at), move), "cycle {crate:crate} {station:station} {sub_address:sub} {function:function} {move:move}")
@@ -149,10 +144,10 @@ def _first(line: str, forms: Iterable["Form[T]"]) -> Optional[T]:
 
 def _read(line: str, *forms: "Form[Any]") -> Any:
     """The same of a line that has to have one."""
-    its = _first(line, forms)
-    if its is None:
+    value = _first(line, forms)
+    if value is None:
         raise ValueError(f"no line of this kind: {shown(line)}")
-    return its
+    return value
 
 
 def read_services(printed: str) -> List[Service]:
@@ -167,9 +162,9 @@ def read_headings(printed: str) -> List[Heading]:
 
 def read_responses(printed: str) -> List[Response]:
     """What `camac response` prints of an accepted script."""
-    its = [_read(line, RESPONSE, UNKEPT) for line in printed.splitlines()]
-    unkept = [it for it in its if isinstance(it, Unkept)]
-    return [it._replace(unkept=tuple(one for one in unkept if one.name == it.name)) for it in its if isinstance(it, Response)]
+    found = [_read(line, RESPONSE, UNKEPT) for line in printed.splitlines()]
+    unkept = [it for it in found if isinstance(it, Unkept)]
+    return [it._replace(unkept=tuple(one for one in unkept if one.name == it.name)) for it in found if isinstance(it, Response)]
 
 
 def read_bodies(printed: str) -> List[Body]:
@@ -235,9 +230,9 @@ def parse_listing(lines: Iterable[str]) -> Iterator[Item]:
         item: Optional[Item] = None
         if tail:
             at, word = (head, "000000") if head.endswith("none") else (head[:-6], head[-6:])
-            its, reply = _read_command(at), _read_reply(tail)
-            if its and reply and WORD.fullmatch(word):
-                item = Cycle(*its, int(word, 16), *reply)
+            sent, reply = _read_command(at), _read_reply(tail)
+            if sent and reply and WORD.fullmatch(word):
+                item = Cycle(*sent, int(word, 16), *reply)
         else:
             item = _read_other(line)
         if item is None:
@@ -249,11 +244,11 @@ def parse_listing(lines: Iterable[str]) -> Iterator[Item]:
 @functools.lru_cache(maxsize=4096)
 def _read_command(text: str) -> Optional[Tuple[Command, Move]]:
     """Reads a dataway cycle up to its word; None if its function does not move a word so."""
-    its = AT.read(text)
-    if its is None:
+    found = AT.read(text)
+    if found is None:
         return None
-    f = its[0].function
-    return its if its[1] is (Move.IN if reads(f) else Move.OUT if writes(f) else Move.NONE) else None
+    f = found[0].function
+    return found if found[1] is (Move.IN if reads(f) else Move.OUT if writes(f) else Move.NONE) else None
 
 
 _read_reply = functools.lru_cache(maxsize=4096)(REPLY.read)
@@ -285,9 +280,9 @@ def read_explanation(printed: str) -> Optional[Explanation]:
     refusal = REFUSAL.read(first)
     if refusal is None:
         return None
-    its = [it for it in lines if not SOURCE.fullmatch(it) and not MARK.fullmatch(it)]
-    sentence = its.pop(0) if its and not its[0].startswith("Why: ") else ""
-    return Explanation(refusal, sentence, tuple(its), tuple(lines))
+    texts = [it for it in lines if not SOURCE.fullmatch(it) and not MARK.fullmatch(it)]
+    sentence = texts.pop(0) if texts and not texts[0].startswith(("Why: ", "Fix: ")) else ""
+    return Explanation(refusal, sentence, tuple(texts), tuple(lines))
 
 
 def read_explanations(printed: str) -> List[Explanation]:
@@ -297,8 +292,8 @@ def read_explanations(printed: str) -> List[Explanation]:
 
 def read_expected(printed: str) -> Optional[List[str]]:
     """What `camac explain` expects in place of the end of a script: words in backquotes, and what it calls by words; None if it is another refusal."""
-    its = MAY_STAND.find(printed)
-    return re.split(", | or ", its["words"]) if its else None
+    found = MAY_STAND.find(printed)
+    return re.split(", | or ", found["words"]) if found else None
 
 
 def read_allowed(sentence: str) -> Optional[Tuple[str, int]]:

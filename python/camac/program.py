@@ -62,10 +62,8 @@ def _of_library(*words: File) -> Verdict:
 
 
 def output_of(*words: File, program: Optional[File] = None) -> str:
-    """Returns what the program prints when it is called with these words. A file name of the user is behind "--".
-
-    Raises Refused if it refuses (status 1), UsageFault if it does not understand the words (status 2), ProgramFault at every other
-    status, and OSError if it cannot be started."""
+    """Returns what the program prints when it is called with these words. A file name of the user is behind "--". Raises Refused if it refuses
+    (status 1), UsageFault if it does not understand the words (status 2), ProgramFault at every other status, and OSError if it cannot be started."""
     found = find(os.fsdecode(words[0]), program)
     if found == IN_PROCESS:
         verdict = _of_library(*words)
@@ -86,10 +84,8 @@ def _called(program: str, *words: File, given: Optional[bytes] = None) -> Tuple[
 
 
 def lines_of(*words: File, program: Optional[File] = None) -> Iterator[str]:
-    """Yields the lines that the program prints, without their LF, as they come. A status of 1 is none of its faults here: the last line
-    says it. The program is ended with the generator.
-
-    Raises UsageFault, ProgramFault and OSError as `output_of`, behind the last line."""
+    """Yields the lines that the program prints, without their LF, as they come. A status of 1 is none of its faults here: the last line says it. The
+    program is ended with the generator. Raises UsageFault, ProgramFault and OSError as `output_of`, behind the last line."""
     found = find(os.fsdecode(words[0]), program)
     if found == IN_PROCESS:
         yield from _of_library(*words).text.splitlines()
@@ -133,17 +129,15 @@ def advice_on(code: str, program: Optional[File] = None) -> Tuple[str, ...]:
 def version(program: Optional[File] = None) -> str:
     """The version, as the program prints it: "camac 0.2.0"."""
     if find("check", program) == IN_PROCESS:
-        from camac import library
+        from camac.native import version as of_library
 
-        return f"camac {library.version()}"
+        return f"camac {of_library()}"
     return output_of("--version", program=program).rstrip("\n")
 
 
 def verdict(command: str, plan: File, script: bytes, program: Optional[File] = None, at: Optional[Tuple[int, int]] = None) -> Verdict:
-    """The program's answer on a script that is given as its text. `command` judges: "check", "tell", "bounds", "costs", "response", "explain --bounds"
-    or "explain", which says with line and column what is known there.
-
-    Raises ProgramFault and OSError as `output_of`."""
+    """The program's answer on a script that is given as its text. `command` judges: "check", "tell", "bounds", "costs", "response", "explain
+    --bounds" or "explain", which says with line and column what is known there. Raises ProgramFault and OSError as `output_of`."""
     words = command.split()
     found = find(words[0], program)
     if found == IN_PROCESS:

@@ -1,7 +1,7 @@
 """Reads a script that is no refused text into a tree."""
 from typing import Callable, Dict, List, Tuple
 
-from camac.language import BODIES, CRATE_CALLS, DECLARATIONS, EACH, LAM, LAM_CALLS, PROCEDURE, SINGLE, SWITCHED, TABLE, TRANSFERS, VARIABLE
+from camac.language import BODIES, CRATE_CALLS, DECLARATIONS, EACH, LAM, LAM_CALLS, PROCEDURE, SINGLE, TABLE, TRANSFERS, VARIABLE
 from camac.tokens import NAMES, Token, tokens_of
 from camac.tree import (
     Assign, Body, Cycle, Expression, For, If, Keep, Lock, Loop, Name, Number, Operation, Part, Plain, Range, Script, SetRegister, Statement, Transfer, While,
@@ -135,12 +135,10 @@ class _Reader:
             return self.cycle(first)
         if word in TRANSFERS:
             return self.transfer(first)
-        if word == "put":
-            return Plain(*at, word, values=(self.expression(),))
-        if word in CRATE_CALLS:
-            return Plain(*at, word, values=(self.expression(),), switch=self.next().text if word in SWITCHED else "")
-        if word in LAM_CALLS:
-            return Plain(*at, word, self.next().text, switch=self.next().text if word in SWITCHED else "")
+        if word == "put" or word in CRATE_CALLS | LAM_CALLS:
+            plain = Plain(*at, word, self.next().text) if word in LAM_CALLS else Plain(*at, word, values=(self.expression(),))
+            self.takes("on", "off")
+            return plain
         if word == "call":
             return self.call(first)
         if word == "if":
@@ -199,9 +197,7 @@ class _Reader:
                 loop.keeps.append(self.keep())
         loop.block = self.tokens[self.at].start
         loop.body = self.block()
-        every = list(all_in(loop.body))
-        loop.written = frozenset(filter(None, map(written_by, every))) - {loop.name}
-        loop.registers = frozenset(it.register for it in every if isinstance(it, SetRegister))
+        loop.written = frozenset(filter(None, map(written_by, all_in(loop.body)))) - {loop.name}
         return loop
 
     def for_(self, first: Token, name: str) -> For:

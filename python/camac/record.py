@@ -74,12 +74,9 @@ class Source(NamedTuple):
 
     def value(self) -> Dict[str, str]:
         """As the record has it: the text; of what is no UTF-8, or has a NUL, as may be in comments, the bytes in base 64."""
-        try:
-            text = {"text": self.data.decode()}
-        except UnicodeDecodeError:
-            text = {}
-        if not text or b"\0" in self.data:
-            text = {"base64": base64.b64encode(self.data).decode()}
+        text = {"base64": base64.b64encode(self.data).decode()}
+        with contextlib.suppress(UnicodeDecodeError):
+            text = text if b"\0" in self.data else {"text": self.data.decode()}
         return {"name": self.name, "sha256": self.sha256, **text}
 
     @classmethod
@@ -199,30 +196,28 @@ def texts_of(plan: File, script: File) -> Tuple[Source, Source]:
     return Source(os.fsdecode(plan), plan_text(plan)), Source(os.fsdecode(script), script_text(script))
 
 
-def describe(
-    of: Played, number: Optional[int] = None, title: str = "", survey: Optional[File] = None, every: Optional[Mapping[str, int]] = None
-) -> Record:
+def describe(of: Played, asked: Optional[Recording] = None) -> Record:
     """The record of a run that has not begun.
 
     Raises Refused if plan or script is refused, ProgramFault and OSError as `camac.check`, and what `read_summary` raises."""
     from camac.native import VERSION, version_text
 
-    surveyed = None
-    if survey is not None:
+    asked, surveyed = asked or Recording(""), None
+    if asked.survey is not None:
         from camac.surveys.summary import read_summary
 
-        surveyed = read_summary(survey)
+        surveyed = read_summary(asked.survey)
     texts = texts_of(of.plan, of.script)
     verdict = output_of("check", "--", of.plan, of.script, program=of.program).splitlines()
     try:
-        response = output_of("response", *rates(every), "--", of.plan, of.script, program=of.program).splitlines()
+        response = output_of("response", *rates(asked.every), "--", of.plan, of.script, program=of.program).splitlines()
     except UsageFault:
-        if every:
+        if asked.every:
             raise
         response = []
     versions = {"package": version_text(VERSION), "program": told(of.program), "python": sys.version.split()[0]}
     events = None if of.events is None else os.fsdecode(of.events)
-    return Record(*texts, tuple(verdict), tuple(response), versions, number, title, events=events, survey=surveyed)
+    return Record(*texts, tuple(verdict), tuple(response), versions, asked.number, asked.title, events=events, survey=surveyed)
 
 
 def beside(events: File) -> Optional[Record]:
@@ -251,7 +246,7 @@ def recorded(asked: Union[File, Recording], of: Played, branch: Branch, play: Ca
 
     Raises what `describe` and the run raise, and ProgramFault if the record cannot be written; a file that holds bytes is none."""
     recording = asked if isinstance(asked, Recording) else Recording(asked)
-    record = describe(of, recording.number, recording.title, recording.survey, recording.every)._replace(begin=now())
+    record = describe(of, recording)._replace(begin=now())
     writer = _Writer(recording.file, record, of)
     watched = _Watched(branch, record, writer)
     with Signals() as signals:
@@ -296,7 +291,7 @@ def write_played(file: File, inputs: "Inputs", may_replace: bool = False, survey
     from camac.runs import collect, is_event_file
 
     events = inputs.source if is_event_file(inputs.source) else None
-    record = describe(Played(inputs.plan, inputs.script, events, None), survey=survey)
+    record = describe(Played(inputs.plan, inputs.script, events, None), Recording("", survey=survey))
     run = collect(inputs, plan(inputs.plan), record.list_services())
     counts = collections.Counter(run.gl)
     size = None if events is None else os.path.getsize(events)

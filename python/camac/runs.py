@@ -293,17 +293,12 @@ def is_event_file(file: File) -> bool:
 
 
 def collect(
-    inputs: Inputs,
-    plan: Plan,
-    services: List[Service],
-    program: Optional[File] = None,
-    responses: Sequence[Response] = (),
+    inputs: Inputs, plan: Plan, services: List[Service], program: Optional[File] = None, responses: Sequence[Response] = (),
     asked: Optional[Asked] = None,
 ) -> Run:
-    """Plays the answers, or reads the event file, and returns what the run did. `responses` are what `camac response` says of the script;
-    without them it is not known how late services ended. `asked` has columns of the words of events.
-
-    Raises OSError if a file cannot be read, and Refused and ProgramFault as `camac.run`."""
+    """Plays the answers, or reads the event file, and returns what the run did. `responses` are what `camac response` says of the script; without
+    them it is not known how late services ended. `asked` has columns of the words of events. Raises OSError if a file cannot be read, and Refused and
+    ProgramFault as `camac.run`."""
     if is_event_file(inputs.source):
         made = _read_event_file(inputs.source, services, asked)
     else:

@@ -213,9 +213,7 @@ def _run(plan: File, script: File, branch: MockBranch, events: Optional[File]) -
         return drive(plan, script, branch, dropped.name)
 
 
-def curve(
-    plan: File, script: File, setting: Setting, make_modules: Callable[[], Optional[Mapping[Place, Module]]], factors: Sequence[float] = FACTORS
-) -> List[Simulation]:
+def curve(plan: File, script: File, setting: Setting, make_modules: Callable[[], Optional[Mapping[Place, Module]]]) -> List[Simulation]:
     """Simulates a script at multiples of its rates, with new modules each time. Raises as `simulate`."""
-    scaled = [setting._replace(rates={name: factor * rate for name, rate in setting.rates.items()}) for factor in factors]
+    scaled = [setting._replace(rates={name: factor * rate for name, rate in setting.rates.items()}) for factor in FACTORS]
     return [simulate(plan, script, it, make_modules()) for it in scaled]

@@ -41,9 +41,7 @@ def plan_text(plan: File) -> bytes:
 
 
 def script_text(script: File) -> bytes:
-    """The text of a file.
-
-    Raises what the program's words raise: ProgramFault if it cannot be read, or is too long, and UsageFault for `@in`."""
+    """The text of a file. Raises what the program's words raise: ProgramFault if it cannot be read, or is too long, and UsageFault for `@in`."""
     try:
         return script.text() if isinstance(script, TextFile) else _read(script)
     except OSError as why:
@@ -65,9 +63,8 @@ def _read(file: File) -> bytes:
 
 
 def source_lines(script: File) -> List[str]:
-    """The lines of a script as the program counts them: by LF alone. A comment may hold any byte; what is no UTF-8 is shown as U+FFFD.
-
-    Raises OSError if it cannot be read."""
+    """The lines of a script as the program counts them: by LF alone. A comment may hold any byte; what is no UTF-8 is shown as U+FFFD. Raises OSError
+    if it cannot be read."""
     with open(script, "rb") as file:
         return [line.decode("utf-8", "replace").rstrip("\r") for line in file.read().split(b"\n")]
 

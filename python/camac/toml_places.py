@@ -1,4 +1,5 @@
 """Where the keys and values of a plan are in its text. The text may have faults: what is before the first one is found."""
+import contextlib
 import functools
 import re
 from typing import Any, Callable, Dict, Iterator, List, NamedTuple, Optional, Tuple, Union
@@ -20,26 +21,20 @@ class Place(NamedTuple):
     end: int
 
 
-class Key(NamedTuple):
-    """The place of a key, and its value."""
-
-    place: Place
-    value: "Value"
-
-
 class Value:
-    """A value and its place: a number, a text or a truth value, a list of values, or a table by its keys."""
+    """A value and its place, with that of its key: a number, a text or a truth value, a list of values, or a table of values by their keys."""
 
     def __init__(self, value: Any, place: Place) -> None:
-        self.value, self.place = value, place
+        self.value, self.place, self.key = value, place, place
 
+    def at(self, key: str) -> Any:
+        """What a table has at a key; None if it has nothing there."""
+        return self.value[key].value if key in self.value else None
 
-class Table(Value):
-    """A value whose parts are `Key`s by their names."""
-
-    def __init__(self, place: Place) -> None:
-        found: Dict[str, Key] = {}
-        super().__init__(found, place)
+    def tables(self, key: str) -> "List[Value]":
+        """The tables of an array of a table."""
+        found = self.at(key)
+        return [it for it in found if isinstance(it.value, dict)] if isinstance(found, list) else []
 
 
 class _End(Exception):
@@ -60,7 +55,7 @@ class _Reader:
             _Token(it.lastgroup or "", it[it.lastgroup or 0], Place(it.start(), it.end())) for it in TOKEN.finditer(text) if it.lastgroup != "skip"
         ]
         self.at = 0
-        self.root = Table(Place(0, len(text)))
+        self.root = Value({}, Place(0, len(text)))
         self.table = self.root
 
     def next(self) -> _Token:
@@ -69,11 +64,10 @@ class _Reader:
         self.at += 1
         return self.tokens[self.at - 1]
 
-    def takes(self, *signs: str) -> bool:
-        """Takes these signs if they come next."""
-        its = self.tokens[self.at : self.at + len(signs)]
-        is_there = [(it.kind, it.text) for it in its] == [("sign", sign) for sign in signs]
-        self.at += len(signs) if is_there else 0
+    def takes(self, sign: str) -> bool:
+        """Takes a sign if it comes next."""
+        is_there = self.at < len(self.tokens) and self.tokens[self.at][:2] == ("sign", sign)
+        self.at += is_there
         return is_there
 
     def pass_lines(self) -> None:
@@ -83,58 +77,49 @@ class _Reader:
     def read(self) -> None:
         self.pass_lines()
         while self.at < len(self.tokens):
-            if self.takes("[", "["):
-                self.header(True)
-            elif self.takes("["):
-                self.header(False)
+            if self.takes("["):
+                self.header(self.takes("["))
             else:
                 self.pair(self.table)
             self.pass_lines()
 
-    def key(self, table: Table) -> Tuple[Table, _Token]:
+    def key(self, table: Value) -> Tuple[Value, _Token]:
         """Reads a key: the table that its first parts lead to, and its last part."""
-        its = [self.next()]
+        parts = [self.next()]
         while self.takes("."):
-            its.append(self.next())
-        return functools.reduce(_below, its[:-1], table), its[-1]
+            parts.append(self.next())
+        return functools.reduce(_below, parts[:-1], table), parts[-1]
 
     def header(self, is_array: bool) -> None:
         table, last = self.key(self.root)
         if is_array:
-            array = table.value.setdefault(last.text, Key(last.place, Value([], last.place))).value
+            array = table.value.setdefault(last.text, Value([], last.place))
             if not isinstance(array.value, list):
                 raise _End
-            self.table = Table(last.place)
+            self.table = Value({}, last.place)
             array.value.append(self.table)
         else:
             self.table = _below(table, last)
         while self.takes("]"):
             pass
 
-    def pair(self, table: Table) -> None:
+    def pair(self, table: Value) -> None:
         table, last = self.key(table)
         if not self.takes("="):
             raise _End
-        table.value[last.text] = Key(last.place, self.value())
+        found = table.value[last.text] = self.value()
+        found.key = last.place
 
     def value(self) -> Value:
         it = self.next()
-        if it.kind == "sign" and it.text == "[":
-            return self.array(it.place.start)
-        if it.kind == "sign" and it.text == "{":
-            return self.inline(it.place.start)
-        if it.kind != "word":
-            return Value(it.text, it.place)
-        return Value(_scalar(it.text), it.place)
-
-    def array(self, start: int) -> Value:
-        values: List[Value] = []
-        return Value(values, self.items(start, "]", lambda: values.append(self.value())))
-
-    def inline(self, start: int) -> Table:
-        table = Table(Place(start, start + 1))
-        table.place = self.items(start, "}", lambda: self.pair(table))
-        return table
+        if it[:2] == ("sign", "["):
+            values: List[Value] = []
+            return Value(values, self.items(it.place.start, "]", lambda: values.append(self.value())))
+        if it[:2] == ("sign", "{"):
+            table = Value({}, it.place)
+            table.place = self.items(it.place.start, "}", lambda: self.pair(table))
+            return table
+        return Value(_scalar(it.text) if it.kind == "word" else it.text, it.place)
 
     def items(self, start: int, sign: str, read: Callable[[], None]) -> Place:
         """Reads what is in brackets, up to the sign that ends it; returns the place of all of it."""
@@ -156,34 +141,21 @@ def _scalar(word: str) -> Union[int, bool, str]:
         return word
 
 
-def _below(table: Table, it: _Token) -> Table:
+def _below(table: Value, it: _Token) -> Value:
     """The table below another one, the last one of an array; made if it is not there."""
-    found = table.value.setdefault(it.text, Key(it.place, Table(it.place))).value
+    found: Value = table.value.setdefault(it.text, Value({}, it.place))
     if isinstance(found.value, list) and found.value:
         found = found.value[-1]
-    if not isinstance(found, Table):
+    if not isinstance(found.value, dict):
         raise _End
     return found
 
 
-def read_places(text: str) -> Table:
+def read_places(text: str) -> Value:
     reader = _Reader(text)
-    try:
+    with contextlib.suppress(_End):
         reader.read()
-    except _End:
-        pass
     return reader.root
-
-
-def tables(of: Table, key: str) -> List[Table]:
-    """The tables of an array."""
-    its = of.value.get(key)
-    return [it for it in its.value.value if isinstance(it, Table)] if its and isinstance(its.value.value, list) else []
-
-
-def number(of: Table, key: str) -> Optional[int]:
-    its = of.value.get(key)
-    return its.value.value if its and type(its.value.value) is int else None
 
 
 # By array its key, and the key that its tables are known by.
@@ -198,43 +170,36 @@ def place_of(text: str, sentence: str) -> Place:
         starts = [0, *(it.end() for it in re.finditer("\n", text))]
         start = min(len(text), starts[min(said[0], len(starts)) - 1] + said[1] - 1)
         return Place(start, min(len(text), start + 1))
-    table = read_places(text)
-    place = Place(0, text.find("\n") if "\n" in text else len(text))
+    found, place = read_places(text), Place(0, text.find("\n") if "\n" in text else len(text))
     for step in said:
-        found = _stepped(table, step) if step else None
-        if found is None:
+        below = _stepped(found, step) if step and isinstance(found.value, dict) else None
+        if below is None:
             break
-        place, below = found
-        if not isinstance(below, Table):
-            break
-        table = below
+        found, place = below, Place(below.key.start, below.place.end)
     return place
 
 
-def _stepped(table: Table, step: Step) -> Optional[Tuple[Place, Optional[Value]]]:
-    """The place of a step below a table, and the value there."""
+def _stepped(table: Value, step: Step) -> Optional[Value]:
+    """The value of a step below a table."""
     if not step.array:
-        found = table.value.get(step.name)
-        return (Place(found.place.start, found.value.place.end), found.value) if found else None
-    array, name = ARRAYS.get(step.array, ("", ""))
-    fitting = tables(table, array)
+        return table.value.get(step.name)  # type: ignore[no-any-return]
+    array, key = ARRAYS.get(step.array, ("", ""))
+    fitting = table.tables(array)
     if step.place:
         fitting = fitting[step.place - 1 : step.place]
     else:
         # The second of two that are known by the same is the one that is refused.
-        fitting = [it for it in fitting if name in it.value and str(it.value[name].value.value) == step.name]
-    return (fitting[-1].place, fitting[-1]) if fitting else None
+        fitting = [it for it in fitting if key in it.value and str(it.at(key)) == step.name]
+    return fitting[-1] if fitting else None
 
 
 def declarations(text: str) -> Iterator[Tuple[str, Declaration]]:
     """The commands of a plan that the checker accepts, each with its type."""
-    for it in tables(read_places(text), "type"):
-        name = it.value["name"].value.value if "name" in it.value else ""
-        for one in tables(it, "commands"):
-            function, first, last = number(one, "f"), number(one, "a"), number(one, "to")
-            if function is not None and first is not None:
-                is_probe, clears = (key in one.value and one.value[key].value.value is True for key in ("probe", "clears"))
-                yield name, Declaration(function, first, first if last is None else last, number(one, "width"), is_probe, clears)
+    for it in read_places(text).tables("type"):
+        for one in it.tables("commands"):
+            last = one.at("a") if one.at("to") is None else one.at("to")
+            is_probe, clears = (one.at(key) is True for key in ("probe", "clears"))
+            yield it.at("name"), Declaration(one.at("f"), one.at("a"), last, one.at("width"), is_probe, clears)
 
 
 def with_commands(plan: Plan, text: str) -> Plan:

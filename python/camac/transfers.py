@@ -2,7 +2,7 @@
 import itertools
 from typing import Dict, FrozenSet, Iterator, List, Sequence, Set, Tuple
 
-from camac.language import OF_FUNCTIONS, TRANSFERS
+from camac.language import TRANSFERS
 from camac.values import Body, Command, Row
 
 SUB_ADDRESSES = 16
@@ -15,16 +15,11 @@ def transfer_commands(bodies: Sequence[Body], script: bytes) -> FrozenSet[Comman
     from camac.reader import read_script
     from camac.tree import Cycle, Transfer
 
-    # The functions of transfers and of single cycles, by line.
-    functions: Dict[Tuple[int, bool], Set[int]] = {}
-    for it in (one for body in read_script(script).bodies for one in body.every):
-        if isinstance(it, (Cycle, Transfer)):
-            functions.setdefault((it.line, isinstance(it, Transfer)), set()).add(it.function)
     sent: Dict[bool, Set[Command]] = {True: set(), False: set()}
-    for row in (row for body in bodies for row in body.rows):
-        if row.word in OF_FUNCTIONS:
-            places = list(_places(row))
-            sent[row.word in TRANSFERS].update(Command(*at, f) for at in places for f in functions.get((row.line, row.word in TRANSFERS), ()))
+    for body, costs in zip(read_script(script).bodies, bodies):
+        for it, row in zip(body.every, (row for row in costs.rows if row.word != "else")):
+            if isinstance(it, (Cycle, Transfer)):
+                sent[isinstance(it, Transfer)].update(Command(*at, it.function) for at in _places(row))
     return frozenset(sent[True] - sent[False])
 
 

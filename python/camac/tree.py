@@ -1,11 +1,16 @@
 """A script as a tree: its expressions and statements, and where they are in the text.
 
 Statements compare by identity, so that each can be a key. (No dataclasses: they would take a call of camac-check 20 ms.)"""
-from typing import Dict, FrozenSet, Iterator, List, NamedTuple, Optional, Sequence, Tuple, Union
+import operator
+from typing import Callable, Dict, FrozenSet, Iterator, List, NamedTuple, Optional, Sequence, Tuple, Union
 
 from camac.language import Kind
 from camac.tokens import Token
 from camac.values import Range as Range
+
+OPERATIONS: Dict[str, Callable[[int, int], int]] = {
+    "+": operator.add, "-": operator.sub, "*": operator.mul, "/": operator.floordiv, "%": operator.mod,
+}
 
 
 class Number(NamedTuple):
@@ -97,11 +102,11 @@ class Transfer(Statement):
 
 class Plain(Statement):
     """A statement that changes nothing that is known: `put`, the calls of a crate, of a LAM, and of a procedure. `name` is that of the LAM or the
-    procedure, `switch` "on", "off" or nothing."""
+    procedure."""
 
-    def __init__(self, line: int, start: int, word: str, name: str = "", values: Tuple[Expression, ...] = (), switch: str = "") -> None:
+    def __init__(self, line: int, start: int, word: str, name: str = "", values: Tuple[Expression, ...] = ()) -> None:
         super().__init__(line, start, *values)
-        self.word, self.name, self.switch, self.values = word, name, switch, values
+        self.word, self.name, self.values = word, name, values
 
 
 class If(Statement):
@@ -115,12 +120,12 @@ class If(Statement):
 class Lock(Statement):
     def __init__(self, line: int, start: int, crate: Expression, body: List[Statement]) -> None:
         super().__init__(line, start, crate)
-        self.crate, self.body = crate, body
+        self.body = body
 
 
 class Loop(Statement):
     """A loop: its own variable (that of a `for`, the measure of a `while`), where the word `keep` is and what is kept, where its block begins,
-    and the other variables that its block writes, with the registers that it sets."""
+    and the other variables that its block writes."""
 
     def __init__(self, line: int, start: int, name: str, *expressions: Expression) -> None:
         super().__init__(line, start, *expressions)
@@ -129,7 +134,6 @@ class Loop(Statement):
         self.keeps: List[Keep] = []
         self.body: List[Statement] = []
         self.written: FrozenSet[str] = frozenset()
-        self.registers: FrozenSet[str] = frozenset()
 
 
 class For(Loop):
@@ -204,6 +208,4 @@ def parts_of(it: Expression) -> Iterator[Expression]:
 
 
 def names_in(it: Expression) -> List[str]:
-    if isinstance(it, Operation):
-        return [*names_in(it.left), *names_in(it.right)]
-    return [it.name] if isinstance(it, Name) else []
+    return [one.name for one in parts_of(it) if isinstance(one, Name)]

@@ -14,7 +14,8 @@ from camac.reader import read_script
 from camac.texts import script_text
 from camac.values import Plan, Service
 from camac.tree import (
-    Assign, Body, Cycle, Expression, For, If, Lock, Loop, Name, Number, Plain, Script, SetRegister, Statement, Transfer, all_in, written_by,
+    OPERATIONS, Assign, Body, Cycle, Expression, For, If, Lock, Loop, Name, Number, Plain, Script, SetRegister, Statement, Transfer, all_in,
+    written_by,
 )
 from camac.words import SPECTRUM, VALUE, WHOLE, Field, Words
 
@@ -167,9 +168,7 @@ class _Walk:
         self.is_behind = True
         most, first = _known(statement.most, state), state.registers.get(statement.registers[0])
         limit = _known(statement.limit, state) if statement.limit is not None else most
-        if not isinstance(most, int) or not isinstance(limit, int):
-            raise _Lost
-        if min(most, limit) > GREATEST_COUNT:
+        if not isinstance(most, int) or not isinstance(limit, int) or min(most, limit) > GREATEST_COUNT:
             raise _Lost
         origins: List[Optional[Origin]] = [self.origin(statement.function, first)] * min(most, limit)
         if len(statement.registers) == 2:
@@ -242,8 +241,4 @@ def _known(expression: Expression, state: _State) -> Known:
     if isinstance(expression, Name):
         return state.variables.get(expression.name)
     left, right = _known(expression.left, state), _known(expression.right, state)
-    if not isinstance(left, int) or not isinstance(right, int):
-        return None
-    if expression.sign in "/%":
-        return left // right if expression.sign == "/" else left % right
-    return {"+": left + right, "-": left - right, "*": left * right}[expression.sign]
+    return OPERATIONS[expression.sign](left, right) if isinstance(left, int) and isinstance(right, int) else None

@@ -153,10 +153,10 @@ class Words:
         self._counts = {(it.gl, it.count) for it in self.fields if it.count is not None}
         self._layouts: Dict[Tuple[int, int], List[Tuple[_Reader, ...]]] = {}
 
-    def tag_of(self, its: Field) -> Optional[Field]:
+    def tag_of(self, field: Field) -> Optional[Field]:
         """The field whose number chooses the column of another one: it is in the same words. None if none does."""
         for it in self.fields:
-            if it.gl == its.gl and it.name == its.of and it.places[0] <= its.places[0] and its.places[1] <= it.places[1]:
+            if it.gl == field.gl and it.name == field.of and it.places[0] <= field.places[0] and field.places[1] <= it.places[1]:
                 return it
         return None
 
@@ -207,10 +207,10 @@ class Words:
             self._layouts[key] = [tuple(it for it in readers if it.field.places[0] <= place <= it.field.places[1]) for place in range(1, last + 1)]
         return self._layouts[key]
 
-    def values_of(self, its: Union[Field, Column], events: EventArrays) -> Values:
+    def values_of(self, of: Union[Field, Column], events: EventArrays) -> Values:
         """The numbers of a field, or of a column of one, in the events of a file. Raises ImportError if numpy is not there."""
         numpy = importlib.import_module("numpy")
-        field, tags = (its, its.tags) if isinstance(its, Field) else (its.field, (its.tag or 0, its.tag or 0))
+        field, tags = (of, of.tags) if isinstance(of, Field) else (of.field, (of.tag or 0, of.tag or 0))
         places = field.places
         if field.of == PLACE:
             places = max(places[0], tags[0]), min(places[1], tags[1])

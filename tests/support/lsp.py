@@ -120,8 +120,8 @@ class Client:
     def change(self, uri, version, *changes):
         """Changes a text: each change is a text, or (first, last, text) with places as (line, character)."""
         self.versions[uri] = version
-        its = [{"text": it} if isinstance(it, str) else {"range": span(*it[:2]), "text": it[2]} for it in changes]
-        self.tell("textDocument/didChange", textDocument={"uri": uri, "version": version}, contentChanges=its)
+        content = [{"text": it} if isinstance(it, str) else {"range": span(*it[:2]), "text": it[2]} for it in changes]
+        self.tell("textDocument/didChange", textDocument={"uri": uri, "version": version}, contentChanges=content)
 
     def at(self, method, uri, line, character, **more):
         return self.ask(f"textDocument/{method}", textDocument={"uri": uri}, position={"line": line, "character": character}, **more)

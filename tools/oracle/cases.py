@@ -5,8 +5,7 @@ from random import Random
 from typing import Callable, List, NamedTuple, Tuple
 
 from oracle.maker import edges
-from oracle.maker.answers import make_answers, make_changed_answers
-from oracle.maker.event_files import make_event_file
+from oracle.maker.answers import make_answers, make_changed_answers, make_event_file
 from oracle.maker.limits import make_limit
 from oracle.maker.plans import make_faulty_plan, make_plan
 from oracle.maker.scripts import make_script

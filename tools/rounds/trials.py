@@ -1,21 +1,63 @@
-"""Trying all rounds, side by side."""
+"""Trying all rounds, side by side, and the refusals that earlier runs of tools/mutants have kept."""
 
 import concurrent.futures
+import contextlib
+import functools
+import glob
+import hashlib
 import os
 import re
+import shutil
+import subprocess
 import threading
 import time
 from pathlib import Path
 
 from rounds.bodies import packed
 from rounds.prover import STILL_PROVED, Round
-from rounds.refusals import Refusals
-from rounds.repository import Stop
+from rounds.repository import Stop, doc
 
 # The priority of what runs beside `rt ci`.
 LEAST = 19
 # The dearest check of a round holds 2.7 gigabytes.
 MEMORY_A_CHECK = 3_000_000_000
+
+
+class Refusals:
+    """Each refusal is a file, which is named by a sum of all that decides it and ends with that sum."""
+
+    def __init__(self):
+        self.folder = f"{os.environ.get('XDG_CACHE_HOME') or os.path.expanduser('~/.cache')}/camac/mutants"
+        with contextlib.suppress(OSError):
+            os.makedirs(self.folder, exist_ok=True)
+
+    def sums(self, crate, bodies):
+        """Returns for each body the sum of all that decides its verdict."""
+        shared = [toolchain(), crate.sum()]
+        return {it: hashlib.sha256(repr([*shared, it.label, it.edit]).encode()).hexdigest() for it in bodies}
+
+    def why(self, total):
+        """Returns why the body with this sum was refused, or None if no whole file says so."""
+        with contextlib.suppress(OSError, UnicodeDecodeError):
+            why, _, rest = Path(f"{self.folder}/{total}").read_text("utf-8").partition("\n")
+            return why if rest == f"{total}\n" else None
+        return None
+
+    def keep(self, total, why):
+        """A file that is not written to its end is none."""
+        first = why.partition("\n")[0]
+        with contextlib.suppress(OSError):
+            Path(f"{self.folder}/{total}").write_text(f"{first}\n{total}\n", "utf-8")
+
+
+@functools.lru_cache(None)
+def toolchain():
+    """Returns a text that no other toolchain, and no other text of this tool, has."""
+    doc()
+    version = subprocess.run(["rt", "version"], capture_output=True, text=True, check=True).stdout
+    here = os.path.dirname(os.path.realpath(__file__))
+    files = [os.path.realpath(shutil.which("rattle")), f"{here}/../mutants", *sorted(glob.glob(f"{glob.escape(here)}/*.py"))]
+    return repr([version, *[hashlib.sha256(Path(it).read_bytes()).hexdigest() for it in files]])
 
 
 class Report:

@@ -1,6 +1,4 @@
-pub mod Texts
 pub mod Readings
 pub mod Few
-pub mod Filled
 pub mod Digits
 pub mod Spelled

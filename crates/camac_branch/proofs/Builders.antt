@@ -13,6 +13,7 @@ use Rattle.camac_branch.proofs.Numbered.{numbered-set_same, numbered-set_other, 
 use Rattle.camac_branch.proofs.Plans.{installed-with_same, installed-with_other}
 
 pub crates_are_added : CratesAreAdded
+unfolding CratesAreAdded
 crates_are_added plan is c waits from to =
     let below : c - 1 < length plan.crates = omega (arith, is.crate_places, from, to) in
     let here = numbered-set_same plan.crates c (Some (empty_crate waits)) from below in
@@ -50,6 +51,7 @@ adds_station plan is c n s (Some k) in_crate there from to =
     }
 
 pub stations_are_added : StationsAreAdded
+unfolding StationsAreAdded
 stations_are_added plan is c n s there from to = adds_station plan is c n s (crate_at plan c) refl there from to
 
 -- one entry after a list
@@ -83,6 +85,7 @@ old_name [] k other i apart = rw (false_from_ne_true (same_text k.name other) (�
 old_name (x ∷ types) k other i apart = same_after (same_text x.name other) (Some i) _ _ (old_name types k other (i + 1) apart)
 
 pub types_are_added : TypesAreAdded
+unfolding TypesAreAdded
 types_are_added plan name commands free = record {
   here = at_end plan.types (record { name = name; commands = commands });
   named = new_name plan.types (record { name = name; commands = commands }) 0 free ∙ ap Some (omega arith);

@@ -1,12 +1,24 @@
 -- The bits of each crate's stations, kept beside the crates.
-use Rattle.std.proofs.Common.{◌≡◌, ℕ, zero, suc, ◌-◌, ◌<◌, ◌≤◌, List, [], ◌∷◌, map, Option, Some, None, length, get_or, set, bit_or, sym, ap, ◌∙◌, arith}
+use Rattle.std.proofs.Common.{◌≡◌, ℕ, zero, suc, ◌-◌, ◌<◌, ◌≤◌, List, [], ◌∷◌, map, Option, Some, None, length, get_or, set, bit_or, sym, ap, ◌∙◌, arith, max}
 use Rattle.std.specs.Int.Bits.{or_comm}
 use Rattle.std.proofs.lemmas.List.{get_or-map, map-set, set-get_or}
 use Rattle.camac_branch.specs.declared.plan.Crate.{Crate}
 use Rattle.camac_branch.specs.declared.plan.Installed.{Installed}
 use Rattle.camac_branch.specs.Plan.{numbered, bit_of, bit_value, bits_of, bits_of_crate, empty_crate, crate_with_installed}
-use Rattle.camac_branch.proofs.Bits.{or_assoc}
 use Rattle.camac_branch.proofs.Numbered.{numbered-read}
+use Rattle.std.specs.Int.{bit_at}
+use Rattle.std.proofs.lemmas.Nat.Bits.{bit_at_or, same_from_bits}
+
+-- The OR of bits.
+
+max_assoc : (a b c : ℕ) → max (max a b) c ≡ max a (max b c)
+max_assoc a b c = omega arith
+
+pub or_assoc : (a b c : ℕ) → bit_or (bit_or a b) c ≡ bit_or a (bit_or b c)
+or_assoc a b c =
+    same_from_bits _ _ (λ i.
+    rw (bit_at_or (bit_or a b) c i, bit_at_or a b i, bit_at_or a (bit_or b c) i, bit_at_or b c i)
+    (max_assoc (bit_at a i) (bit_at b i) (bit_at c i)))
 
 -- one more station adds its own bit
 bits_of-set : (stations : List (Option Installed)) (i : ℕ) (s : Installed) → i < length stations → get_or stations i None ≡ None

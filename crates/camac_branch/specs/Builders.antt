@@ -30,15 +30,15 @@ pub record AddsType (old new : Layout) (name : List ℕ) (commands : Commands) :
   pub buffer : new.buffer ≡ old.buffer
 
 -- each builder changes its own entry alone
-abbrev pub CratesAreAdded : Type 0
+unfoldable pub CratesAreAdded : Type 0
 CratesAreAdded = (plan : Layout) → IsPlan plan → (c waits : ℕ) → 1 ≤ c → c ≤ 7 → AddsCrate plan (with_crate plan c waits) c waits
 
-abbrev pub StationsAreAdded : Type 0
+unfoldable pub StationsAreAdded : Type 0
 StationsAreAdded =
     (plan : Layout) → IsPlan plan → (c n : ℕ) (s : Installed) → IsSome (crate_at plan c) → 1 ≤ n → n ≤ 23
     → AddsStation plan (with_installed plan c n s) c n s
 
-abbrev pub TypesAreAdded : Type 0
+unfoldable pub TypesAreAdded : Type 0
 TypesAreAdded =
     (plan : Layout) (name : List ℕ) (commands : Commands) → type_named plan name ≡ None
     → AddsType plan (with_type plan name commands) name commands

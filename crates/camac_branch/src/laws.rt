@@ -12,16 +12,19 @@ pub fn patterns_are_of_stations()
 
 /// What `Plan::add_type` leaves: the next number and the name are those of the new type. Each other number and name, and the crates, are as
 /// they were.
+#[tactic(auto, using(crate::proofs::Builders::types_are_added))]
 pub fn types_are_added()
     ensures { TypesAreAdded }
 {}
 
 /// What `Plan::add_crate` leaves: the crate has its waits and nothing installed. Each other crate, and the types, are as they were.
+#[tactic(auto, using(crate::proofs::Builders::crates_are_added))]
 pub fn crates_are_added()
     ensures { CratesAreAdded }
 {}
 
 /// What `Plan::add_station` leaves: this is installed at the station. Each other station, the waits, and the types are as they were.
+#[tactic(auto, using(crate::proofs::Builders::stations_are_added))]
 pub fn stations_are_added()
     ensures { StationsAreAdded }
 {}

@@ -6,10 +6,8 @@ use Rattle.camac_machine.specs.declared.item.Item.{Item}
 use Rattle.camac_machine.specs.declared.item.Item.TheVariants as item
 
 abbrev pub with_taken : Item → List ℕ → List ℕ
-with_taken (item.Cycle done) held = held
 with_taken (item.Lock c wait) held = if nat_lt (length held) 7 then held ++ c ∷ [] else held
-with_taken (item.Unlock c) held = held
-with_taken (item.Demand pattern service) held = held
+with_taken _ held = held
 
 -- without the last n
 abbrev pub without : ℕ → List ℕ → List ℕ

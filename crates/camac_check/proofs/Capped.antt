@@ -1,7 +1,6 @@
 -- Costs that are cut at 64 bits are judged as the costs themselves.
 use Rattle.std.proofs.Common.{◌≡◌, ℕ, ◌+◌, ◌-◌, ◌*◌, ◌^◌, zero, suc, ◌<◌, ◌≤◌, Bool, true, false, Option, Some, None, Result, Ok, Err, refl, sym, ap, ◌∙◌, ⊎_elim, lit<, arith}
 use Rattle.std.specs.Prelude.{◌&&◌, min, nat_lt, nat_le, slice_get, unwrap_or}
-use Rattle.std.proofs.Math.Nat.{mul-le-mul_left}
 use Rattle.std.proofs.lemmas.Bool.{leb-true, lt-leb, le-leb, cases_lt}
 use Rattle.camac_func.specs.Class.{class_of}
 use Rattle.camac_func.specs.declared.code.FunctionClass.TheVariants.{Read, Write, Control}
@@ -28,6 +27,7 @@ use Rattle.camac_rules.specs.Conditions.{split}
 use Rattle.camac_rules.specs.Costs.{costs, no_costs, plus, choice_costs, lock_costs, loop_costs, Verdict, verdict, unreached}
 use Rattle.camac_rules.specs.Capped.{capped}
 use Rattle.camac_rules.specs.Addresses.{command_widths}
+use Rattle.camac_check_loops.proofs.Counts.{scaled}
 use Rattle.camac_rules.specs.Cycles.{Context, Around, alone_in, with_locked, may_write, same_class, single_rule}
 use Rattle.camac_rules.specs.Loops.{with_fixed, for_limits, for_head, for_after, keeps_hold_after, turns_between, while_head, turn_bound}
 use Rattle.camac_rules.specs.Procedures.{ranges_of, arguments_fit, at_entry}
@@ -79,23 +79,6 @@ choice_cut a b = same_costs _ _ _ _ _ _ (omega arith) (omega arith) (omega arith
 
 lock_cut : (w : ℕ) (a : Bounds) → capped (lock_costs w (capped a)) ≡ capped (lock_costs w a)
 lock_cut w a = same_costs _ _ _ _ _ _ (omega arith) (omega arith) (omega arith)
-
-scaled : (t n k : ℕ) → min (t * min n k) k ≡ min (t * n) k
-scaled zero n k = omega arith
-scaled (suc t) n k =
-    ⊎_elim
-    (λ above.
-    let all : k ≤ k + t * k = omega arith in
-    let more : t * k ≤ t * n = mul-le-mul_left t (omega arith) in
-    let cut' : min n k ≡ k = omega arith in
-    let left : suc t * min n k ≡ k + t * k = ap (λ m. suc t * m) cut' ∙ suc_times t k in
-    let right : suc t * n ≡ n + t * n = suc_times t n in
-    omega (arith, left, right))
-    (λ below. let same : min n k ≡ n = omega arith in ap (λ m. min (suc t * m) k) same)
-    (cases_lt k n)
-  where
-    suc_times : (t n : ℕ) → suc t * n ≡ n + t * n
-    suc_times t n = omega arith
 
 loop_cut : (t : ℕ) (a : Bounds) → capped (loop_costs t (capped a)) ≡ capped (loop_costs t a)
 loop_cut t a = same_costs _ _ _ _ _ _ (scaled t a.cycles (2 ^ 64 - 1)) (scaled t a.words (2 ^ 64 - 1)) (steps_scaled t a.steps (2 ^ 64 - 1))

@@ -10,7 +10,7 @@ use Rattle.camac_names.specs.declared.fault.LinkCase.TheVariants.{Words}
 use Rattle.camac_names.specs.declared.fault.LinkFault.{LinkFault}
 use Rattle.camac_names.specs.declared.fault.LinkRule.{LinkRule}
 use Rattle.camac_names.specs.declared.fault.LinkRule.TheVariants.{StationWithoutBit, StationServedTwice, EventAboveBuffer}
-use Rattle.camac_names.specs.Link.{unless, place_of, served_by, lams_fault, lam_bit, is_served, service_fault, served_fault, or_else, services_fault, link_fault}
+use Rattle.camac_names.specs.Link.{unless, at_lam, served_by, lams_fault, lam_bit, is_served, service_fault, served_fault, or_else, services_fault, link_fault}
 use Rattle.camac_model.proofs.Headline.{fine_services_run}
 use Rattle.camac_rules.specs.Accept.{accept}
 use Rattle.camac_rules.specs.Laws.{EventsFit}
@@ -31,7 +31,7 @@ served_fits plan lams earlier v None e = cc
 served_fits plan lams earlier v (Some l) e =
     let third : Option LinkFault = unless (nat_le v.words plan.buffer) EventAboveBuffer v.spot (Words v.words plan.buffer) None in
     let second : Option LinkFault = unless (not (is_served lams l earlier)) StationServedTwice v.spot (served_by lams l earlier) third in
-    let a = unless_parts (is_some (lam_bit plan l)) StationWithoutBit v.spot (place_of l) second e in
+    let a = unless_parts (is_some (lam_bit plan l)) StationWithoutBit v.spot (at_lam l) second e in
     let b = unless_parts (not (is_served lams l earlier)) StationServedTwice v.spot (served_by lams l earlier) third a.1 in
     let c = unless_parts (nat_le v.words plan.buffer) EventAboveBuffer v.spot (Words v.words plan.buffer) None b.1 in
     leb-true v.words plan.buffer c.0

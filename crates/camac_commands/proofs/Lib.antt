@@ -3,7 +3,6 @@ pub mod Wider
 pub mod Sorts
 pub mod ByRows
 pub mod Actions
-pub mod Arguments
 pub mod Loops
 pub mod Matches
 pub mod Statements

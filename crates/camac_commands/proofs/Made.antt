@@ -47,7 +47,7 @@ use Rattle.camac_rules.proofs.Held.{MayLock, CanLock, lock_allowed, lock_taken a
 use Rattle.camac_rules.proofs.ForLoops as counting
 use Rattle.camac_rules.proofs.ForLoops.{MayCount, limits_allowed}
 use Rattle.camac_rules.proofs.Lockless.{has_lock, block_has_lock}
-use Rattle.camac_rules.proofs.Routines.{AreSmall, Serves}
+use Rattle.camac_rules.proofs.Routines.{AreSmall, Serves, AllFit, GiveAll, ranges_each, in_ranges, are_small}
 use Rattle.camac_rules.proofs.Statements.{may_first, may_second, reached_sound, statement_sound, block_sound}
 use Rattle.camac_check.proofs.Capped.{in_code}
 use Rattle.camac_check_rows.specs.declared.row.Row.{Row}
@@ -59,7 +59,6 @@ use Rattle.camac_commands.proofs.ByRows.{Over, over_block, listed_over, over_tur
 use Rattle.camac_commands.proofs.Sorts.{block_sorted}
 use Rattle.camac_commands.proofs.Listed.{Listed}
 use Rattle.camac_commands.proofs.Actions.{always, with_result, single_listed, q_stop_listed, q_repeat_listed, lam_listed}
-use Rattle.camac_commands.proofs.Arguments.{GiveAll, AllFit, ranges_each, in_ranges, are_small}
 use Rattle.camac_commands.proofs.Matches.{Matches, matches_at}
 use Rattle.camac_commands.proofs.Statements.{both_allowed, each_begun, turn_begins}
 use Rattle.camac_lang.specs.declared.spot.Spot.{Spot}

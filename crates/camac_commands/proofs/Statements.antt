@@ -40,7 +40,7 @@ use Rattle.camac_rules.proofs.ForLoops.{MayCount, limits_allowed}
 use Rattle.camac_rules.proofs.WhileLoops as turning
 use Rattle.camac_rules.proofs.WhileLoops.{MayTurn, head_allowed}
 use Rattle.camac_rules.proofs.Lockless.{has_lock, block_has_lock}
-use Rattle.camac_rules.proofs.Routines.{AreSmall, Serves}
+use Rattle.camac_rules.proofs.Routines.{AreSmall, Serves, AllFit, GiveAll, ranges_each, in_ranges, are_small}
 use Rattle.camac_rules.proofs.Statements.{may_first, may_second, reached_sound, statement_sound, block_sound}
 use Rattle.camac_check.proofs.Capped.{in_code}
 use Rattle.camac_check_rows.specs.declared.row.Row.{Row}
@@ -51,7 +51,6 @@ use Rattle.camac_commands.proofs.ByRows.{Over, over_block, listed_over, over_tur
 use Rattle.camac_commands.proofs.Sorts.{block_sorts, AreOf, merge_of, block_sorted}
 use Rattle.camac_commands.proofs.Listed.{Listed, listed_first, listed_second, listed_then, listed_given, listed_any}
 use Rattle.camac_commands.proofs.Actions.{always, with_result, single_listed, scan_listed, q_stop_listed, q_repeat_listed, crate_listed, lam_listed}
-use Rattle.camac_commands.proofs.Arguments.{GiveAll, AllFit, ranges_each, in_ranges, are_small}
 use Rattle.camac_commands.proofs.Matches.{Matches, matches_at}
 use Rattle.camac_commands.proofs.Loops.{for_listed, while_listed}
 use Rattle.camac_lang.specs.declared.spot.Spot.{Spot}

@@ -9,7 +9,7 @@ use Rattle.camac_lang.specs.Tree.{Statement, single, address_scan, q_stop, q_rep
 use Rattle.camac_branch.specs.Address.{Address}
 use Rattle.camac_branch.specs.Branch.{Branch, Answer}
 use Rattle.camac_branch.specs.Plan.{Layout, IsPlan}
-use Rattle.camac_model.specs.Behaviour.{Piece, demanded, cycled, lock_taken, lock_released, event_left}
+use Rattle.camac_model.specs.Behaviour.{Piece, cycled}
 use Rattle.camac_model.specs.Fine.{Bounds}
 use Rattle.camac_model.specs.Headline.{no_count, nothing}
 use Rattle.camac_model.specs.Meaning.{context, crate_address, crate_function, lam_function}
@@ -41,11 +41,8 @@ is_told at f c = nat_eq f c.function && lies_in c.region at
 
 -- each cycle is one of these commands
 abbrev pub IsListed : List Command → Unit {0} → Piece → Type 0
-IsListed cs u (demanded p v) = Unit {0}
 IsListed cs u (cycled at f d r w) = list_any (is_told at f) cs ≡ true
-IsListed cs u (lock_taken c w) = Unit {0}
-IsListed cs u (lock_released c) = Unit {0}
-IsListed cs u (event_left e) = Unit {0}
+IsListed cs u _ = Unit {0}
 
 -- of a service, whatever the branch is like and answers
 abbrev pub MakesOnly : Layout → Script → Service → List Command → Type 0

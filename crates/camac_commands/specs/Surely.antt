@@ -6,7 +6,7 @@ use Rattle.camac_lang.specs.Tree.{Expression, number, Statement, single, q_stop,
 use Rattle.camac_branch.specs.Address.{Address}
 use Rattle.camac_branch.specs.Branch.{Branch, Answer}
 use Rattle.camac_branch.specs.Plan.{Layout, IsPlan}
-use Rattle.camac_model.specs.Behaviour.{Piece, demanded, cycled, lock_taken, lock_released, event_left}
+use Rattle.camac_model.specs.Behaviour.{Piece, cycled}
 use Rattle.camac_model.specs.Fine.{Bounds}
 use Rattle.camac_model.specs.Meaning.{context, lam_function}
 use Rattle.camac_model.specs.Moments.{Meets, AnyStop}
@@ -58,11 +58,8 @@ surely_of test plan s = told_over (surely_block test) [] (sections_of s) (costs_
 
 -- whether such a cycle was made so far
 abbrev pub made_one : (Address → (function : ℕ) → Bool) → Bool → Piece → Bool
-made_one meant so_far (demanded p v) = so_far
 made_one meant so_far (cycled at f d r w) = so_far || meant at f
-made_one meant so_far (lock_taken c w) = so_far
-made_one meant so_far (lock_released c) = so_far
-made_one meant so_far (event_left e) = so_far
+made_one meant so_far _ = so_far
 
 abbrev pub AnyPiece : {X : Type 0} → X → Piece → Type 0
 AnyPiece x p = Unit {0}

@@ -1,8 +1,7 @@
 -- Setting and clearing one of two bits, by their four states.
 use Rattle.std.proofs.Common.{◌≡◌, ℕ, Bool, true, false, if◌then◌else◌, bit_or, refl, ap, sym, ◌∙◌}
 use Rattle.bitflags.specs.Sets.{without}
-use Rattle.camac_crate.specs.State.{CrateBits}
-use Rattle.camac_crate.specs.Bits.{bits_of, number_of, HasNoOther}
+use Rattle.camac_crate.specs.State.{CrateBits, bits_of, number_of, HasNoOther}
 
 abbrev pub bits : (inhibit demand : Bool) → CrateBits
 bits i d = record { inhibit = i; demand = d }

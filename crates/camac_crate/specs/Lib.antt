@@ -1,4 +1,3 @@
 pub mod Controller
 pub mod State
 pub mod Lock
-pub mod Bits

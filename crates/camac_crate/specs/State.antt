@@ -1,7 +1,8 @@
 -- The bits of a crate, and what the controller commands answer and change (the project's own).
-use Rattle.std.specs.Prelude.{ℕ, Bool, true, false, not, nat_eq}
+use Rattle.std.specs.Prelude.{ℕ, Bool, true, false, not, nat_eq, ◌+◌, ◌≡◌, ◌==◌, if◌then◌else◌}
 use Rattle.camac_crate.specs.declared.command.ControllerOp.{ControllerOp}
 use Rattle.camac_crate.specs.declared.command.ControllerOp.TheVariants.{Initialise, ReadGl, InhibitOff, InhibitOn, TestInhibit, DemandOff, DemandOn, TestDemandOutput, TestDemand}
+use Rattle.std.specs.Int.RustNames.{bit_and}
 
 pub record CrateBits : Type 0 where
   -- the common control I
@@ -33,3 +34,15 @@ effect InhibitOn bits = record bits { inhibit = true }
 effect DemandOff bits = record bits { demand = false }
 effect DemandOn bits = record bits { demand = true }
 effect op bits = bits
+
+-- The bits of a crate as a set of two bits: inhibit has the value 1, demand the value 2.
+
+abbrev pub bits_of : ℕ → CrateBits
+bits_of n = record { inhibit = bit_and n 1 == 1; demand = bit_and n 2 == 2 }
+
+abbrev pub number_of : CrateBits → ℕ
+number_of b = (if b.inhibit then 1 else 0) + (if b.demand then 2 else 0)
+
+-- a number with no bit but these two
+abbrev pub HasNoOther : ℕ → Type 0
+HasNoOther n = number_of (bits_of n) ≡ n

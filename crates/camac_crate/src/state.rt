@@ -54,7 +54,7 @@ impl Model for CrateState {
     ghost Value = { CrateBits };
 
     ghost use Rattle.std.proofs.Common.{ap};
-    ghost use Rattle.camac_crate.specs.Bits.{bits_of, number_of, HasNoOther};
+    ghost use Rattle.camac_crate.specs.State.{bits_of, number_of, HasNoOther};
 
     ghost view = { λ a. bits_of a.bits.0 };
 

@@ -19,9 +19,9 @@ use Rattle.camac_explain.specs.Sentence.{sentence_of}
 use Rattle.camac_explain.specs.declared.finding.Finding.{Finding}
 use Rattle.camac_engines.specs.Accepted.{Accepted, accepted_read}
 use Rattle.camac_engines.specs.Engine.{IsWritten, Shows}
-use Rattle.camac_engines.specs.Explain.{AllExplained, Explained, ExplainedIf, IsRead, IsSentence, PlanExplained, ReportsMore, TellsExplained, TellsHeadings}
+use Rattle.camac_engines.specs.Explain.{AllExplained, Explained, ExplainedBy, ExplainedIf, IsRead, PlanExplained, ReportsMore, TellsExplained, TellsHeadings}
 use Rattle.camac_engines.specs.Headings.{headed_read, headings_told}
-use Rattle.camac_engines.specs.Refusals.{after_first, also_line, findings_of, told_after, turn_line, turn_line_of}
+use Rattle.camac_engines.specs.Refusals.{after_first, also_line, detail_lines, findings_of, told_after, turn_line_of}
 use Rattle.camac_engines.specs.Report.{Report, refused, refused_and, report_plan, report_read}
 use Rattle.camac_engines.specs.declared.explaining.TextExplained.{TextExplained}
 use Rattle.camac_engines.specs.declared.fault.ToolFault.{ToolFault}
@@ -77,20 +77,20 @@ first_and_rest (x ∷ xs) other h =
 
 script_explained : (text : List ℕ) (script : Script) (f : Finding) (lines : List ℕ) → script_of text ≡ Ok script → lines ≡ explanation_of text f (sentence_of script f) → Explained text f lines
 script_explained text script f lines read is =
-    (sentence_of script f, subst (λ (s : Result Script TextFault). IsSentence text s f (sentence_of script f)) (sym read) refl, is)
+    subst (λ (s : Result Script TextFault). ExplainedBy text s f lines) (sym read) is
 
 module _ (plan : Layout) (text : List ℕ) (script : Script) (o p : Option (List ℕ)) (r : Result Outcome ToolFault) where
-  pub first_explained : FirstIsLinkFault → FirstIsRefusal → (f : Finding) (rest : List Finding) (lines turned more : List ℕ) → script_of text ≡ Ok script → findings_of plan script ≡ f ∷ rest
-      → lines ≡ explanation_of text f (sentence_of script f) → turned ≡ lines ++ turn_line plan script f → more ≡ turned ++ flat_map (also_line text) rest → Shows (refused_and (refusal_of f) more) o p r
+  pub first_explained : FirstIsLinkFault → FirstIsRefusal → (f : Finding) (rest : List Finding) (lines detailed more : List ℕ) → script_of text ≡ Ok script → findings_of plan script ≡ f ∷ rest
+      → lines ≡ explanation_of text f (sentence_of script f) → detailed ≡ lines ++ detail_lines plan text script f → more ≡ detailed ++ flat_map (also_line text) rest → Shows (refused_and (refusal_of f) more) o p r
       → IsWritten (TellsExplained plan text) o p r
-  first_explained linked checked f rest lines turned more read is told turn also h =
+  first_explained linked checked f rest lines detailed more read is told details also h =
       let found = first_found linked checked plan script text f rest read is in
-      let others : told_after plan text (result_ok (script_of text)) ≡ turn_line plan script f ++ flat_map (also_line text) rest =
+      let others : told_after plan text (result_ok (script_of text)) ≡ detail_lines plan text script f ++ flat_map (also_line text) rest =
       ap (λ s. told_after plan text (result_ok s)) read ∙ ap (after_first plan text script) is in
       refusal_explained (AllExplained plan text) more f _ _ o p r found.0 found.1 (
         lines,
         script_explained text script f lines read told,
-        also ∙ ap (λ l. l ++ flat_map (also_line text) rest) turn ∙ append_assoc lines (turn_line plan script f) (flat_map (also_line text) rest) ∙ ap (λ l. lines ++ l) (sym others),
+        also ∙ ap (λ l. l ++ flat_map (also_line text) rest) details ∙ append_assoc lines (detail_lines plan text script f) (flat_map (also_line text) rest) ∙ ap (λ l. lines ++ l) (sym others),
       ) h
 
   pub none_explained : FirstIsLinkFault → FirstIsRefusal → (shown : Report) → script_of text ≡ Ok script → findings_of plan script ≡ [] → report_read plan (Ok script) ≡ shown → Shows shown o p r → IsWritten (TellsExplained plan text) o p r

@@ -6,7 +6,7 @@ use Rattle.camac_lang.specs.Tree.{Lam, Service, Script}
 use Rattle.camac_lang.specs.declared.spot.Spot.{Spot}
 use Rattle.camac_branch.specs.Plan.{Layout, installed}
 use Rattle.camac_model.specs.Fine.{Bounds}
-use Rattle.camac_names.specs.Link.{FirstIsLinkFault, is_served, lam_bit, lams_fault, link_fault, link_faults, or_else, service_fault, served_by, served_fault, services_fault, place_of, unless}
+use Rattle.camac_names.specs.Link.{FirstIsLinkFault, is_served, lam_bit, lams_fault, link_fault, link_faults, or_else, service_fault, served_by, served_fault, services_fault, at_lam, unless}
 use Rattle.camac_names.specs.declared.fault.LinkCase.{LinkCase}
 use Rattle.camac_names.specs.declared.fault.LinkCase.TheVariants.{Words}
 use Rattle.camac_names.specs.declared.fault.LinkFault.{LinkFault}
@@ -43,14 +43,14 @@ or_rule (Some f) next h k = h
 
 lams_rule : (plan : Layout) (ls : List Lam) → IsRule (lams_fault plan ls)
 lams_rule plan [] = tt
-lams_rule plan (l ∷ ls) = unless_rule (is_some (installed plan l.crate_no l.station)) LamNotInstalled l.spot (place_of l) (lams_fault plan ls) (lams_rule plan ls)
+lams_rule plan (l ∷ ls) = unless_rule (is_some (installed plan l.crate_no l.station)) LamNotInstalled l.spot (at_lam l) (lams_fault plan ls) (lams_rule plan ls)
 
 served_rule : (plan : Layout) (lams : List Lam) (earlier : List Service) (v : Service) (o : Option Lam) → IsRule (served_fault plan lams earlier v o)
 served_rule plan lams earlier v None = tt
 served_rule plan lams earlier v (Some l) =
     let third : Option LinkFault = unless (nat_le v.words plan.buffer) EventAboveBuffer v.spot (Words v.words plan.buffer) None in
     let second : Option LinkFault = unless (not (is_served lams l earlier)) StationServedTwice v.spot (served_by lams l earlier) third in
-    unless_rule (is_some (lam_bit plan l)) StationWithoutBit v.spot (place_of l) second
+    unless_rule (is_some (lam_bit plan l)) StationWithoutBit v.spot (at_lam l) second
     (unless_rule (not (is_served lams l earlier)) StationServedTwice v.spot (served_by lams l earlier) third
     (unless_rule (nat_le v.words plan.buffer) EventAboveBuffer v.spot (Words v.words plan.buffer) None tt))
 

@@ -1,5 +1,5 @@
 -- What `camac explain` tells of a plan and a script.
-use Rattle.std.specs.Prelude.{◌≡◌, ℕ, List, ◌++◌, Option, Some, None, Result, Ok, Err}
+use Rattle.std.specs.Prelude.{◌≡◌, ℕ, List, ◌++◌, Some, None, Result, Ok, Err}
 use Rattle.std.specs.Result.{result_ok}
 use Rattle.camac_lang.specs.Tree.{Script}
 use Rattle.camac_tokens.specs.Fault.{Fault as TextFault}
@@ -9,11 +9,12 @@ use Rattle.camac_branch.specs.Plan.{Layout}
 use Rattle.camac_plan.specs.declared.fault.PlanCase.{PlanCase}
 use Rattle.camac_plan.specs.declared.fault.PlanFault.TheVariants.{Broken}
 use Rattle.camac_plan.specs.Reading.{TellsCase}
-use Rattle.camac_explain.specs.Explanation.{IsPlanExplanation, explanation_of}
+use Rattle.camac_explain.specs.Explanation.{IsPlanExplanation, explanation_of, text_explanation}
 use Rattle.camac_explain.specs.Sentence.{sentence_of}
 use Rattle.camac_explain.specs.declared.finding.Finding.{Finding}
 use Rattle.camac_explain.specs.declared.finding.Finding.TheVariants as finding
-use Rattle.camac_explain_text.specs.Text.{IsTextSentence}
+use Rattle.camac_explain_text.specs.Sentence.{Said}
+use Rattle.camac_explain_text.specs.Text.{IsTextTold}
 use Rattle.camac_engines.specs.Accepted.{Accepted, accepted}
 use Rattle.camac_engines.specs.Headings.{headed, headings_report}
 use Rattle.camac_engines.specs.Plan.{PlanFound}
@@ -23,14 +24,14 @@ use Rattle.camac_engines.specs.declared.explaining.TextExplained.{TextExplained}
 use Rattle.camac_engines.specs.declared.outcome.Outcome.{Outcome}
 use Rattle.camac_engines.specs.declared.outcome.Outcome.TheVariants.{Good, Refused}
 
--- of a script what the rule knew of it, of any other text the sentence on its fault
-abbrev pub IsSentence : List ℕ → Result Script TextFault → Finding → Option (List ℕ) → Type 0
-IsSentence text (Ok script) f sentence = sentence ≡ sentence_of script f
-IsSentence text (Err flaw) f sentence = IsTextSentence text sentence
+-- by what the rule knew of a script, or by what is told of any other text's fault
+abbrev pub ExplainedBy : List ℕ → Result Script TextFault → Finding → List ℕ → Type 0
+ExplainedBy text (Ok script) f more = more ≡ explanation_of text f (sentence_of script f)
+ExplainedBy text (Err flaw) f more = (said : Said) × IsTextTold text flaw said × (more ≡ text_explanation text f said.0 said.1)
 
 -- the lines that explain what was found in a script's text
 abbrev pub Explained : List ℕ → Finding → List ℕ → Type 0
-Explained text f more = (sentence : Option (List ℕ)) × IsSentence text (script_of text) f sentence × (more ≡ explanation_of text f sentence)
+Explained text = ExplainedBy text (script_of text)
 
 -- and then its turn, and a line for each further refusal
 abbrev pub AllExplained : Layout → List ℕ → Finding → List ℕ → Type 0

@@ -15,6 +15,7 @@ use Rattle.camac_check_costs.specs.Turns.{last_turn}
 use Rattle.camac_explain.specs.Source.{column_of}
 use Rattle.camac_explain.specs.declared.finding.Finding.{Finding}
 use Rattle.camac_explain.specs.declared.finding.Finding.TheVariants as finding
+use Rattle.camac_explain_case.specs.Case.{case_lines}
 use Rattle.camac_lines.specs.Refusal.{refusal_text, refusal_text_at}
 use Rattle.camac_lines.specs.declared.refusal.Refusal.TheVariants as refusal
 
@@ -72,14 +73,16 @@ abbrev pub turn_line_of : (turn : List ℕ) → List ℕ
 turn_line_of [] = []
 turn_line_of (b ∷ bs) = codes "Turn: " ++ (b ∷ bs) ++ codes "\n"
 
-abbrev pub turn_line : Layout → Script → Finding → List ℕ
-turn_line plan script (finding.Check rule spot case) = turn_line_of (last_turn plan script spot.left)
-turn_line plan script _ = []
+-- beside the explanation of a finding: its turn, and what its case tells
+abbrev pub detail_lines : Layout → (text : List ℕ) → Script → Finding → List ℕ
+detail_lines plan text script (finding.Check rule spot case) =
+    turn_line_of (last_turn plan script spot.left) ++ case_lines plan text rule spot case
+detail_lines plan text script _ = []
 
--- after the explanation of the first: its turn, and a line for each other
+-- after the explanation of the first: its details, and a line for each other
 abbrev pub after_first : Layout → (text : List ℕ) → Script → List Finding → List ℕ
 after_first plan text script [] = []
-after_first plan text script (f ∷ fs) = turn_line plan script f ++ flat_map (also_line text) fs
+after_first plan text script (f ∷ fs) = detail_lines plan text script f ++ flat_map (also_line text) fs
 
 -- a text that is no script is refused by its first fault alone
 abbrev pub told_after : Layout → (text : List ℕ) → Option Script → List ℕ

@@ -1,5 +1,5 @@
 -- Where the statement at a place of a text begins, by its tokens.
-use Rattle.std.specs.Prelude.{ℕ, ◌+◌, ◌-◌, ◌^◌, Bool, true, false, not, ◌&&◌, ◌||◌, List, [], ◌∷◌, length, min, nat_eq, nat_le, slice_get, Option, Some, None, if◌then◌else◌}
+use Rattle.std.specs.Prelude.{ℕ, ◌+◌, ◌-◌, ◌^◌, Bool, true, false, not, ◌&&◌, ◌||◌, List, [], ◌∷◌, length, min, nat_eq, nat_le, slice_get, Option, Some, None, unwrap_or, if◌then◌else◌}
 use Rattle.camac_lang.specs.declared.spot.Spot.{Spot}
 use Rattle.camac_tokens.specs.declared.token.Keyword.{Keyword}
 use Rattle.camac_tokens.specs.declared.token.Keyword.TheVariants as word
@@ -77,12 +77,8 @@ chosen_after from left s (Some before) = if nat_le from left then Some s else So
 abbrev pub chosen : (line from : ℕ) → Token → Option Spot → Option (Option Spot) → Option (Option Spot)
 chosen line from t s before = if nat_eq t.spot.line line then chosen_after from t.spot.left s before else before
 
-abbrev pub standing_in : Option (Option Spot) → Option Spot
-standing_in None = None
-standing_in (Some s) = s
-
 abbrev pub standings : (line from : ℕ) → Seen → Option (Option Spot) → List Token → Option Spot
-standings line from w before [] = standing_in before
+standings line from w before [] = unwrap_or before None
 standings line from w before (t ∷ ts) =
     standings line from (walked w t (slice_get ts 0)) (chosen line from t (walked w t (slice_get ts 0)).statement before) ts
 

@@ -14,7 +14,7 @@ use Rattle.camac_explain.specs.declared.finding.Finding.{Finding}
 use Rattle.camac_explain.specs.declared.finding.Finding.TheVariants as finding
 use Rattle.camac_engines.specs.Accepted.{Accepted, accepted}
 use Rattle.camac_engines.specs.Explain.{Explained}
-use Rattle.camac_engines.specs.Refusals.{findings_of, placed_refusal, turn_line}
+use Rattle.camac_engines.specs.Refusals.{detail_lines, findings_of, placed_refusal}
 use Rattle.camac_engines.specs.Report.{Report, Reports, report}
 use Rattle.camac_engines.specs.declared.outcome.Outcome.{Outcome}
 use Rattle.camac_engines.specs.declared.outcome.Outcome.TheVariants.{Refused}
@@ -27,9 +27,9 @@ abbrev pub and_more : Report → (more : List ℕ) → Report
 and_more None more = None
 and_more (Some told) more = Some (told.0, told.1 ++ more)
 
--- a refusal in full: its line with its column, what explains it, and its turn
+-- a refusal in full: its line with its column, what explains it, and its details
 abbrev pub told_refusal : Layout → (text : List ℕ) → Script → Finding → List ℕ
-told_refusal plan text script f = placed_refusal text f ++ (explanation_of text f (sentence_of script f) ++ turn_line plan script f)
+told_refusal plan text script f = placed_refusal text f ++ (explanation_of text f (sentence_of script f) ++ detail_lines plan text script f)
 
 -- the fault of a text that is no script, in full
 abbrev pub TellsFault : (text : List ℕ) → Finding → List ℕ → Type 0

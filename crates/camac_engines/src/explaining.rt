@@ -8,7 +8,7 @@ ghost use Rattle.camac_explain.specs.Sentence.{sentence_of};
 ghost use Rattle.camac_engines.specs.Engine.{IsWritten, Shows, is_write_fault};
 ghost use Rattle.camac_engines.specs.Explain.{IsRead, PlanExplained, ReportsMore, TellsExplained, TellsHeadings};
 ghost use Rattle.camac_engines.specs.Plan.{HasCase};
-ghost use Rattle.camac_engines.specs.Refusals.{turn_line, turn_line_of};
+ghost use Rattle.camac_engines.specs.Refusals.{detail_lines, turn_line_of};
 ghost use Rattle.camac_engines.specs.Report.{refused_and, report_plan};
 ghost use Rattle.camac_word.specs.Watched.{inner_of, has_failed};
 ghost use Rattle.camac_word.specs.Writing.{Writes};
@@ -23,8 +23,9 @@ use crate::refusals::{findings_of, push_also};
 use camac_branch::Plan;
 use camac_check::laws::first_is_refusal;
 use camac_check_costs::last_turn;
-use camac_explain::{Finding, explain_plan, explain_script, script_sentence};
-use camac_explain_text::text_sentence;
+use camac_explain::{Finding, explain_fault, explain_plan, explain_script, script_sentence};
+use camac_explain_case::push_case;
+use camac_explain_text::{TextTold, text_told};
 use camac_lang::Script;
 use camac_lines::{Refusal, write_refusal};
 use camac_names::laws::first_is_link_fault;
@@ -84,7 +85,7 @@ fn explain_judged<W: Write>(
         [] => show(out, &judge_script(alloc, plan, script)?),
         [first, further @ ..] => {
             let mut more = explain_finding(alloc, text, &script, *first)?;
-            push_turn(alloc, &mut more, plan, &script, *first)?;
+            push_details(alloc, &mut more, plan, text, &script, *first)?;
             push_also(&mut more, text, further)?;
             refuse_and(out, first.refusal(), &more)
         }
@@ -148,8 +149,8 @@ pub fn read_script(alloc: Global, text: &[u8]) -> Result<Result<Script, TextExpl
         Err(TextFault::Broken { case, spot }) => {
             let rule = case.rule();
             let finding = Finding::Text { rule, spot };
-            let sentence = text_sentence(alloc, text, case, spot.left, noted)?;
-            let lines = explain_script(alloc, text, finding, Some(sentence))?;
+            let TextTold { sentence, hint } = text_told(alloc, text, case, spot.left, noted)?;
+            let lines = explain_fault(alloc, text, finding, sentence, hint)?;
             Ok(Err(TextExplained { finding, lines }))
         }
     }
@@ -168,21 +169,24 @@ pub fn explain_finding(
     explain_script(alloc, text, finding, sentence)
 }
 
-/// Puts the turn in which the checker refuses a statement at the end, on a line of its own, if an `each` loop is around it.
-pub fn push_turn(
+/// Puts what else is told of a finding at the end: the turn in which the checker refuses a statement, if an `each` loop is around it, and what its
+/// case tells.
+pub fn push_details(
     alloc: Global,
     lines: &mut Vec<u8>,
     plan: &Plan,
+    text: &[u8],
     script: &Script,
     finding: Finding,
 ) -> Result<(), AllocError>
-    ensures { OnOk result (lines.new.items ≡ lines.old.items ++ turn_line plan.now script.now finding) }
+    ensures { OnOk result (lines.new.items ≡ lines.old.items ++ detail_lines plan.now text.now script.now finding) }
 {
-    let Finding::Check { spot, .. } = finding else {
+    let Finding::Check { rule, spot, case } = finding else {
         return Ok(());
     };
     let turn = last_turn(alloc, plan, script, spot)?;
-    push_turn_line(lines, turn.as_slice())
+    push_turn_line(lines, turn.as_slice())?;
+    push_case(alloc, lines, plan, text, rule, spot, case)
 }
 
 #[tactic(auto, using(crate::proofs::Explained::turn_of_some))]

@@ -11,7 +11,7 @@ ghost use Rattle.camac_engines.specs.declared.outcome.Outcome.TheVariants.{Good}
 ghost use Rattle.camac_word.specs.Watched.{inner_of, has_failed};
 ghost use Rattle.camac_word.specs.Writing.{Writes};
 
-use crate::explaining::{explain_finding, push_turn, read_script};
+use crate::explaining::{explain_finding, push_details, read_script};
 use crate::fault::ToolFault;
 use crate::judging::{Judged, judge};
 use crate::outcome::Outcome;
@@ -131,5 +131,5 @@ fn push_refusal(
 {
     lines.extend_from_slice(placed_refusal(text, finding).as_bytes())?;
     lines.extend_from_slice(&explain_finding(alloc, text, script, finding)?)?;
-    push_turn(alloc, lines, plan, script, finding)
+    push_details(alloc, lines, plan, text, script, finding)
 }

@@ -1,5 +1,5 @@
 -- What is told of each rule: why it is there, and what to do where it is broken. The texts stand with its code in src/pages.rt.
-use Rattle.std.specs.Prelude.{ℕ, ◌-◌, ◌&&◌, ◌||◌, Bool, true, false, List, [], ◌∷◌, map, nat_eq, nat_lt, nat_le, if◌then◌else◌}
+use Rattle.std.specs.Prelude.{ℕ, ◌-◌, ◌&&◌, ◌||◌, Bool, false, List, [], ◌∷◌, map, nat_eq, nat_lt, nat_le, if◌then◌else◌}
 use Rattle.std.specs.Str.{bytes_eq}
 use Rattle.camac_plan.specs.declared.fault.PlanRule.{PlanRule}
 use Rattle.camac_tokens.specs.declared.fault.TextRule.{TextRule}
@@ -10,7 +10,6 @@ use Rattle.camac_func.specs.declared.code.FunctionClass.TheVariants.{Read, Write
 use Rattle.camac_range.specs.Number.{greatest}
 use Rattle.camac_rules.specs.Loops.{turn_limit}
 use Rattle.camac_rules.specs.declared.case.Case.{Case}
-use Rattle.camac_rules.specs.declared.case.Body.TheVariants.{Procedure}
 use Rattle.camac_rules.specs.declared.case.Case.TheVariants.{Direction, Operation, Turns, Judged, Budget, Width, Word}
 use Rattle.camac_rules.specs.declared.case.Numbers.{Numbers}
 use Rattle.camac_rules.specs.declared.case.Operator.TheVariants.{Sub}
@@ -19,7 +18,7 @@ use Rattle.camac_answer.specs.declared.fault.AnswerRule.{AnswerRule}
 use Rattle.camac_event.specs.declared.fault.EventRule.{EventRule}
 use Rattle.camac_explain.specs.Warning.{warning_code}
 use Rattle.camac_explain.specs.declared.rule.Warning.{Warning}
-use Rattle.camac_explain.specs.declared.pages.TheConstants.{ANY_RIGHT, ANY_SIDE, ANY_VALUE, ANY_WORD, DIFFERENCE, FEWER_CYCLES, FEWER_EACH, FEWER_STEPS, FEWER_WORDS, MORE_CYCLES, MORE_OF_PROCEDURE, MORE_STEPS, MORE_TURNS, MORE_WORDS, MOST_TURNS, MOVES_NONE, OF_ANSWERS, OF_CHECKER, OF_EVENTS, OF_LINKS, OF_PLANS, OF_TEXTS, OF_WARNINGS, READS, RESULT, TWO_LOOPS, VALUE, WORD, WRITES}
+use Rattle.camac_explain.specs.declared.pages.TheConstants.{ANY_RIGHT, ANY_SIDE, ANY_VALUE, ANY_WORD, DIFFERENCE, FEWER_CYCLES, FEWER_EACH, FEWER_STEPS, FEWER_WORDS, MORE_CYCLES, MORE_STEPS, MORE_TURNS, MORE_WORDS, MOST_TURNS, MOVES_NONE, OF_ANSWERS, OF_CHECKER, OF_EVENTS, OF_LINKS, OF_PLANS, OF_TEXTS, OF_WARNINGS, READS, RESULT, TWO_LOOPS, VALUE, WORD, WRITES}
 
 pub record Told : Type 0 where
   pub why : List ℕ
@@ -106,11 +105,6 @@ abbrev pub is_within : (most : ℕ) → Case → Bool
 is_within most (Budget body needed allowed) = nat_le needed most
 is_within most case = false
 
--- a procedure has no `lock`
-abbrev pub is_of_procedure : Case → Bool
-is_of_procedure (Budget (Procedure p) needed allowed) = true
-is_of_procedure case = false
-
 abbrev pub first_fix : List (List ℕ × List ℕ) → List ℕ
 first_fix [] = []
 first_fix (fix ∷ fixes) = fix.1
@@ -128,8 +122,7 @@ check_fix check.TooManyTurns (Turns needed allowed) = if nat_le needed turn_limi
 check_fix check.TooManyTurns (Judged whose needed allowed) = FEWER_EACH.1.now
 check_fix check.TooManyTurns case = MOST_TURNS.1.now
 check_fix check.TooManyWords case = if is_within 4096 case then MORE_WORDS.1.now else FEWER_WORDS.1.now
-check_fix check.TooManyCycles case =
-    if is_within greatest case then (if is_of_procedure case then MORE_OF_PROCEDURE.1.now else MORE_CYCLES.1.now) else FEWER_CYCLES.1.now
+check_fix check.TooManyCycles case = if is_within greatest case then MORE_CYCLES.1.now else FEWER_CYCLES.1.now
 check_fix check.WordTooWide case = if is_any case then ANY_WORD.1.now else WORD.1.now
 check_fix check.TooManySteps case = if is_within greatest case then MORE_STEPS.1.now else FEWER_STEPS.1.now
 check_fix rule case = first_fix (check_page rule).fixes

@@ -1,4 +1,4 @@
--- The lines that follow a refusal: the source line, at most one sentence, and what is told of the rule.
+-- The lines that follow a refusal: the source line, at most one sentence, and the hint of a text's fault, or what is told of the rule.
 use Rattle.std.specs.Prelude.{◌≡◌, ℕ, List, [], ◌++◌, Option, Some, None, codes, map}
 use Rattle.camac_lines.specs.Codes.{plan_code}
 use Rattle.camac_lines.specs.Refusal.{code_of}
@@ -35,6 +35,12 @@ explanation source sentence told code = source ++ sentence_line sentence ++ advi
 -- of a script's refusal
 abbrev pub explanation_of : (text : List ℕ) → Finding → (sentence : Option (List ℕ)) → List ℕ
 explanation_of text f sentence = explanation (source_of text f) sentence (told_of f) (code_of (refusal_of f)).0
+
+-- of a refused text, whose fault may have a hint of its own: that is the fix, in place of what is told of the rule
+abbrev pub text_explanation : (text : List ℕ) → Finding → (sentence hint : Option (List ℕ)) → List ℕ
+text_explanation text f sentence None = explanation_of text f sentence
+text_explanation text f sentence (Some hint) =
+    source_of text f ++ sentence_line sentence ++ (codes "Fix: " ++ sentence_line (Some hint)) ++ line_of (codes "More: docs/REFUSALS.md, ") (code_of (refusal_of f)).0
 
 -- of a refused plan, by its rule in this case
 abbrev pub IsPlanExplanation : (text : List ℕ) → PlanRule → PlanCase → List ℕ → Type 0

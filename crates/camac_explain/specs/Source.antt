@@ -41,12 +41,10 @@ begin_of line column = min (column - 60) (length line - 120)
 abbrev pub dots : Bool → List ℕ
 dots left_out = if left_out then codes ".." else []
 
-abbrev pub part_from : List ℕ → ℕ → List ℕ
-part_from line begin =
-    dots (nat_lt 0 begin) ++ map shown_byte (take 120 (drop begin line)) ++ dots (nat_lt begin (length line - 120))
-
 abbrev pub shown_line : List ℕ → ℕ → List ℕ
-shown_line line column = part_from line (begin_of line column)
+shown_line line column =
+    dots (nat_lt 0 (begin_of line column)) ++ map shown_byte (take 120 (drop (begin_of line column) line))
+    ++ dots (nat_lt (begin_of line column) (length line - 120))
 
 -- an empty line is that after the last one
 abbrev pub shown_or_end : List ℕ → ℕ → List ℕ
@@ -70,12 +68,10 @@ abbrev pub gap : Bool → List ℕ
 gap left_out = if left_out then codes "  " else []
 
 -- the line below a line that is shown, with a `^` below the byte of the column
-abbrev pub mark_from : (line : List ℕ) → (column begin : ℕ) → List ℕ
-mark_from line column begin =
-    codes "      | " ++ gap (nat_lt 0 begin) ++ flat_map blank_below (take (column - begin) (drop begin line)) ++ codes "^\n"
-
 abbrev pub mark_line : (line : List ℕ) → (column : ℕ) → List ℕ
-mark_line line column = mark_from line column (begin_of line column)
+mark_line line column =
+    codes "      | " ++ gap (nat_lt 0 (begin_of line column))
+    ++ flat_map blank_below (take (column - begin_of line column) (drop (begin_of line column) line)) ++ codes "^\n"
 
 -- a line that is shown, with a mark below it
 abbrev pub marked_line : (line : List ℕ) → (number column : ℕ) → List ℕ

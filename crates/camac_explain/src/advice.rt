@@ -1,7 +1,7 @@
 // Why each rule is there, and what to do where it is broken.
 
 ghost use Rattle.std.specs.Prelude.{◌≡◌, map};
-ghost use Rattle.camac_explain.specs.Advice.{answer_told, check_fix, check_page, check_told, event_told, has_room, is_any, is_difference, is_forgotten, is_of_procedure, is_right_forgotten, is_side_forgotten, is_within, link_told, plan_told, text_told, warning_told};
+ghost use Rattle.camac_explain.specs.Advice.{answer_told, check_fix, check_page, check_told, event_told, has_room, is_any, is_difference, is_forgotten, is_right_forgotten, is_side_forgotten, is_within, link_told, plan_told, text_told, warning_told};
 
 use crate::pages::{self, Fix};
 use crate::rule::Warning;
@@ -11,7 +11,7 @@ use camac_func::FunctionClass;
 use camac_lang::limits;
 use camac_names::LinkRule;
 use camac_plan::PlanRule;
-use camac_rules::{Body, Case, CheckRule, Numbers, Operator};
+use camac_rules::{Case, CheckRule, Numbers, Operator};
 use camac_text::TextRule;
 
 // The greatest number of words that a plan's buffer holds.
@@ -255,16 +255,14 @@ fn words_fix(case: Case) -> Fix
     }
 }
 
-// E12: a larger number in the heading, where one is large enough. A procedure has no `lock`.
+// E12: a larger number in the heading, where one is large enough.
 fn cycles_fix(case: Case) -> Fix
     ensures { result.1.now ≡ check_fix CheckRule.TooManyCycles case }
 {
-    if !is_within(u32::MAX, case) {
-        pages::FEWER_CYCLES
-    } else if is_of_procedure(case) {
-        pages::MORE_OF_PROCEDURE
-    } else {
+    if is_within(u32::MAX, case) {
         pages::MORE_CYCLES
+    } else {
+        pages::FEWER_CYCLES
     }
 }
 
@@ -285,18 +283,6 @@ fn is_within(most: u32, case: Case) -> bool
 {
     match case {
         Case::Budget { needed, .. } => needed <= u64::from(most),
-        _ => false,
-    }
-}
-
-fn is_of_procedure(case: Case) -> bool
-    ensures { result ≡ is_of_procedure case }
-{
-    match case {
-        Case::Budget {
-            body: Body::Procedure(_),
-            ..
-        } => true,
         _ => false,
     }
 }

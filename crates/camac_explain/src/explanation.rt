@@ -1,8 +1,8 @@
 // The lines of an explanation.
 
-ghost use Rattle.std.specs.Prelude.{◌≡◌, ◌++◌, Some, IfOk, OnOk, option_map, string_bytes};
+ghost use Rattle.std.specs.Prelude.{◌≡◌, ◌++◌, Some, IfOk, OnOk, codes, option_map, string_bytes};
 ghost use Rattle.camac_explain.specs.Advice.{told};
-ghost use Rattle.camac_explain.specs.Explanation.{IsPlanExplanation, advice_text, explanation_of, line_of, sentence_line, told_of};
+ghost use Rattle.camac_explain.specs.Explanation.{IsPlanExplanation, advice_text, explanation_of, line_of, sentence_line, text_explanation, told_of};
 ghost use Rattle.camac_explain.specs.Source.{source_of};
 
 use crate::advice::{Advice, check_advice, link_advice, plan_advice, text_advice};
@@ -48,6 +48,40 @@ pub fn explain_script(
     Ok(lines)
 }
 
+/// The same of a text's fault, which may have a hint of its own: that is the fix, in place of what is told of the rule.
+pub fn explain_fault(
+    alloc: Global,
+    text: &[u8],
+    finding: Finding,
+    sentence: Option<String>,
+    hint: Option<String>,
+) -> Result<Vec<u8>, AllocError>
+    ensures { IfOk result (λ v. v.items ≡ text_explanation text.now finding (option_map string_bytes sentence) (option_map string_bytes hint)) }
+{
+    match hint {
+        None => explain_script(alloc, text, finding, sentence),
+        Some(hint) => explain_by_hint(alloc, text, finding, sentence, hint),
+    }
+}
+
+fn explain_by_hint(
+    alloc: Global,
+    text: &[u8],
+    finding: Finding,
+    sentence: Option<String>,
+    hint: String,
+) -> Result<Vec<u8>, AllocError>
+    ensures { IfOk result (λ v. v.items ≡ text_explanation text.now finding (option_map string_bytes sentence) (Some (string_bytes hint))) }
+{
+    let mut lines = Vec::new(alloc);
+    push_source(&mut lines, text, finding)?;
+    push_sentence(&mut lines, sentence)?;
+    let code = finding.refusal().code();
+    push_hint(&mut lines, hint.as_bytes())?;
+    push_line(&mut lines, "More: docs/REFUSALS.md, ", code.name)?;
+    Ok(lines)
+}
+
 fn advice_of(finding: Finding) -> Advice
     ensures why { result.why.now ≡ (told_of finding).why }
     ensures fix { result.fix.now ≡ (told_of finding).fix }
@@ -76,6 +110,13 @@ fn push_told(lines: &mut Vec<u8>, sentence: &[u8]) -> Result<(), AllocError>
     push_shown(lines, sentence)?;
     lines.push(b'\n')?;
     Ok(())
+}
+
+fn push_hint(lines: &mut Vec<u8>, hint: &[u8]) -> Result<(), AllocError>
+    ensures { OnOk result (lines.new.items ≡ lines.old.items ++ (codes "Fix: " ++ sentence_line (Some hint.now))) }
+{
+    lines.extend_from_slice(b"Fix: ")?;
+    push_told(lines, hint)
 }
 
 // Puts what is told of the rule of this code at the end.

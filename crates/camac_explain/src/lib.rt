@@ -11,7 +11,7 @@ mod rule;
 mod sentence;
 mod source;
 
-pub use explanation::{explain_plan, explain_script};
+pub use explanation::{explain_fault, explain_plan, explain_script};
 pub use finding::Finding;
 pub use rule::{Rule, explain_rule};
 pub use sentence::script_sentence;

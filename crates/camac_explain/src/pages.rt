@@ -337,11 +337,6 @@ pub const FEWER_WORDS: Fix = (
 
 pub const MORE_CYCLES: Fix = (
     "",
-    "write a larger number after `within`, as `camac bounds` prints it, make fewer cycles, or make several in one `lock`.",
-);
-
-pub const MORE_OF_PROCEDURE: Fix = (
-    ", of a procedure",
     "write a larger number after `within`, as `camac bounds` prints it, or make fewer cycles.",
 );
 
@@ -447,8 +442,8 @@ pub static OF_CHECKER: [CheckRow; 19] = [
     ),
     (
         "E12",
-        "auxiliary controllers may take up to the crate's `waits` before each of ours, and each of their cycles counts.",
-        &[MORE_CYCLES, MORE_OF_PROCEDURE, FEWER_CYCLES],
+        "each dataway cycle counts, on the longest way through the body.",
+        &[MORE_CYCLES, FEWER_CYCLES],
     ),
     (
         "E13",

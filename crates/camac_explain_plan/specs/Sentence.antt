@@ -11,7 +11,7 @@ use Rattle.camac_plan.specs.declared.key.PlanKey.TheVariants as key
 use Rattle.camac_explain_plan.specs.Path.{way_to}
 use Rattle.camac_explain_plan.specs.Place.{hint_of_text, place_text}
 use Rattle.camac_explain_plan.specs.Table.{value_in}
-use Rattle.camac_explain_plan.specs.Told.{told}
+use Rattle.camac_explain_plan.specs.Told.{case_text}
 use Rattle.camac_explain_plan.specs.Unknown.{unknown_sentence}
 
 -- the table that a text says as TOML
@@ -35,7 +35,7 @@ value_at_key top table key = option_and_then (value_in top table) key
 
 -- the way to the place, and what is told of it
 abbrev pub at_table : (top : Members) → PlanTable → PlanCase → List ℕ
-at_table top table c = way_to top table (key_in c) ++ (codes ": " ++ told top (value_at_key top table (key_in c)) c)
+at_table top table c = way_to top table (key_in c) ++ (codes ": " ++ case_text top (value_at_key top table (key_in c)) c)
 
 -- the key that its table has not, by its number
 abbrev pub unknown_in : PlanCase → Option (PlanTable × ℕ)

@@ -78,17 +78,17 @@ twice_told top value key first =
     concat (codes "the value is " ∷ shown value ∷ codes ", which is already used at " ∷ way_to_first top key first ∷ codes "." ∷ [])
 
 -- what a rule knew of the value at its key, if there is one
-abbrev pub told : (top : Members) → (value : Option Data) → PlanCase → List ℕ
-told top value (case.Missing there key wanted) = missing_told key wanted
-told top value (case.Kind there key wanted) = kind_told value key wanted
-told top value (case.Range there key found low high) =
+abbrev pub case_text : (top : Members) → (value : Option Data) → PlanCase → List ℕ
+case_text top value (case.Missing there key wanted) = missing_told key wanted
+case_text top value (case.Kind there key wanted) = kind_told value key wanted
+case_text top value (case.Range there key found low high) =
     concat (codes "the value is " ∷ signed_decimal found ∷ codes "; expected " ∷ decimal low ∷ codes " to " ∷ decimal high ∷ codes "." ∷ [])
-told top value (case.Name there key) =
+case_text top value (case.Name there key) =
     concat (codes "the value is " ∷ shown value ∷ codes ", and a name has 1 to 32 letters, digits, `_` or `-`." ∷ [])
-told top value (case.Probe there width) = concat (codes "the value is " ∷ decimal width ∷ codes ", and a probe has 24 bits." ∷ [])
-told top value (case.ClearingProbe there) = codes "a probe clears no look-at-me."
-told top value (case.Full there) = codes "there are at most 64 types."
-told top value (case.Twice there key first) = twice_told top value key first
-told top value (case.Command there f a first) =
+case_text top value (case.Probe there width) = concat (codes "the value is " ∷ decimal width ∷ codes ", and a probe has 24 bits." ∷ [])
+case_text top value (case.ClearingProbe there) = codes "a probe clears no look-at-me."
+case_text top value (case.Full there) = codes "there are at most 64 types."
+case_text top value (case.Twice there key first) = twice_told top value key first
+case_text top value (case.Command there f a first) =
     concat (codes "F" ∷ decimal f ∷ codes " at A" ∷ decimal a ∷ codes " is declared already, at the " ∷ nth (command_place first) (codes "command") ∷ codes "." ∷ [])
-told top value _ = concat (codes "the value is " ∷ shown value ∷ codes "." ∷ [])
+case_text top value _ = concat (codes "the value is " ∷ shown value ∷ codes "." ∷ [])

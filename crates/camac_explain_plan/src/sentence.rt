@@ -7,7 +7,7 @@ ghost use Rattle.camac_explain_plan.specs.Sentence.{IsPlanSentence, IsReadSenten
 use crate::path::way_to;
 use crate::place::{before, hint_of_text, place_sentence};
 use crate::table::value_in;
-use crate::told::told;
+use crate::told::case_text;
 use crate::unknown::unknown_sentence;
 use camac_plan::{PlanCase, PlanKey, PlanTable};
 use std::alloc::{AllocError, Global};
@@ -134,7 +134,7 @@ fn at_table(
 {
     let key = key_in(case);
     let way = way_to(alloc, top, table, key)?;
-    let told = told(alloc, top, value_at_key(top, table, key), case)?;
+    let told = case_text(alloc, top, value_at_key(top, table, key), case)?;
     format!(in alloc; "{way}: {told}")
 }
 

@@ -2,7 +2,7 @@
 
 ghost use Rattle.std.specs.Prelude.{◌≡◌, IfOk, Some, option_map, string_bytes};
 ghost use Rattle.toml.specs.View.{array_view, table_view, view};
-ghost use Rattle.camac_explain_plan.specs.Told.{command_place, entry_or, first_other, key_hint, kind_name, kind_text, kind_told, missing_hint, missing_told, needed, other_in, shown, told, twice_told};
+ghost use Rattle.camac_explain_plan.specs.Told.{command_place, entry_or, first_other, key_hint, kind_name, kind_text, kind_told, missing_hint, missing_told, needed, other_in, shown, case_text, twice_told};
 
 use crate::path::{Nth, Path, is_known_by};
 use crate::place::{DOUBLE_BRACKETS, RANGE};
@@ -47,13 +47,13 @@ impl fmt::Display for Shown<'_> {
 }
 
 // What a rule knew of the value at its key, if there is one.
-pub(crate) fn told(
+pub(crate) fn case_text(
     alloc: Global,
     top: &Table,
     value: Option<&Value>,
     case: PlanCase,
 ) -> Result<String, AllocError>
-    ensures { IfOk result (λ s. string_bytes s ≡ told (table_view top.now) (option_map (λ v. view v.now) value.entry) case) }
+    ensures { IfOk result (λ s. string_bytes s ≡ case_text (table_view top.now) (option_map (λ v. view v.now) value.entry) case) }
 {
     let shown = Shown(value);
     match case {

@@ -1,5 +1,6 @@
 pub mod Byte
 pub mod Hint
+pub mod Marked
 pub mod Meant
 pub mod Mistake
 pub mod Sentence

@@ -20,6 +20,7 @@ use Rattle.camac_explain_text_words.specs.Spelled.{is_hexadecimal, is_word, sign
 use Rattle.camac_explain_text_words.specs.declared.forms.TheConstants.{ASSIGNMENT}
 use Rattle.camac_explain_text_place.specs.Before.{Standing, begins_statement, called_in, declared, first_of, is_in_brackets, is_kind, near, open_line, wants_new_name, word_of}
 use Rattle.camac_explain_text.specs.Hint.{address_text, before_text, brackets_text, called_text, form_text, inside_text, meant_text, name_text, no_arrow_text, no_result_text, of_language_text, open_text, takes_text, tested_text}
+use Rattle.camac_explain_text.specs.Marked.{ends_in_marked_number}
 use Rattle.camac_explain_text.specs.declared.hint.TheConstants.{DIGITS}
 use Rattle.camac_explain_text.specs.Mistake.{case, first_case, is_either, told_of_kind, usual_mistake}
 use Rattle.camac_explain_text_place.specs.Place.{Place, absent_word_at, adjoins_word, begins_line, begins_statement_at, expects, is_assigned, is_before, is_before_name, last}
@@ -68,10 +69,11 @@ is_spelled_out (Some (kind.Name n)) = true
 is_spelled_out (Some (kind.Keyword w)) = true
 is_spelled_out _ = false
 
--- a word right after a number, as in `0x1F`
+-- a word right after a number, as in `0x1F`; a comment where a number may stand, as in `put #ff`
 unfoldable pub decimal_digits : Place → Option (List ℕ)
 decimal_digits p =
-    first_case (case (is_spelled_out p.token && (is_number (last p) && adjoins_word p)) DIGITS.now ∷ [])
+    first_case (case (is_spelled_out p.token && (is_number (last p) && adjoins_word p)) DIGITS.now
+    ∷ case (expects p choice.Number && ends_in_marked_number p.text) (codes "A `#` begins a comment: write numbers in decimal digits, as `255` for `#ff`.") ∷ [])
 
 -- what a sign is taken for
 abbrev pub taken_for : Place → Sign → Option Sign
@@ -146,15 +148,12 @@ unexpected_hint p =
     (or_else (arguments p)
     (or_else (open_block p) (option_map form_text (form_at p)))))))))
 
-abbrev pub near_name : Place → (wanted : NameKind) → Option (List ℕ)
-near_name p wanted = option_map (λ d. name_text d.name) (near p.bytes wanted p.before)
-
 -- behind a name that is not declared
 unfoldable pub name_hint : Place → (wanted : NameKind) → Option (List ℕ)
 name_hint p wanted =
     or_else (decimal_digits p)
     (or_else (option_map meant_text (near_word p))
-    (or_else (near_name p wanted)
+    (or_else (option_map (λ d. name_text d.name) (near p.bytes wanted p.before))
     (first_case (
     case (is_kind wanted named.Variable && is_before p (codes "(")) (called_text p.bytes)
     ∷ case (is_kind wanted named.Variable && (not (is_assigned p) && is_hexadecimal p.bytes)) DIGITS.now

@@ -124,15 +124,12 @@ abbrev pub is_of_condition : TokenKind → Bool
 is_of_condition (kind.Sign s) = compares s
 is_of_condition k = is_keyword word.And (Some k) || (is_keyword word.Not (Some k) || is_flag (Some k))
 
-abbrev pub tests_lams : Keyword → Bool
-tests_lams first = is_word first word.Ctlm || (is_word first word.Ctci || (is_word first word.Ctcd || is_word first word.Ctgl))
-
 -- a token that may not stand in what begins with this word, wherever in it
 unfoldable pub mistake_in : Place → (first : Keyword) → TokenKind → Option (List ℕ)
 mistake_in p first k =
     first_case (
     case (is_either word.If word.While first && (is_of_condition k && is_in_brackets p.before)) (codes "Brackets are for expressions, not for conditions.")
-    ∷ case (tests_lams first && is_sign sign.Into (Some k)) (codes "The answer is the flag `q`.")
+    ∷ case ((is_either word.Ctlm word.Ctci first || is_either word.Ctcd word.Ctgl first) && is_sign sign.Into (Some k)) (codes "The answer is the flag `q`.")
     ∷ case (is_name_wanted p.noted && is_kind (needed p) named.Register) (codes "Set a register to an address first, by `cdreg`.")
     ∷ case (is_name_wanted p.noted && is_kind (needed p) named.Lam) (codes "Write the name of a LAM here, which `cdlam` declares.") ∷ [])
 

@@ -11,6 +11,7 @@ ghost use Rattle.camac_explain_text.specs.Mistake.{is_either};
 ghost use Rattle.camac_explain_text_place.specs.Place.{expects, place_of};
 ghost use Rattle.camac_explain_text_words.specs.Spelled.{word_text};
 
+use crate::marked::ends_in_marked_number;
 use crate::mistake::{told_of_kind, usual_mistake};
 use camac_explain_text_place::{Before, Found};
 use camac_explain_text_words::{ASSIGNMENT, Absent, form_of, is_hexadecimal, sign_text, word_text};
@@ -248,13 +249,7 @@ fn meant_by_name(kind: Option<&TokenKind>) -> Option<Hint<'_>>
         return None;
     };
     let word = name.as_bytes();
-    meant_before(word, near_beginning(word))
-}
-
-fn meant_before<'a>(word: &'a [u8], meant: Option<&'static str>) -> Option<Hint<'a>>
-    ensures { option_map hint_text result ≡ option_map (before_text word.now) (option_map (λ s. s.now) meant.entry) }
-{
-    match meant {
+    match near_beginning(word) {
         Some(meant) => Some(Hint::MeantBefore { word, meant }),
         None => None,
     }
@@ -335,7 +330,7 @@ fn fits(found: &Found<'_>, word: Keyword) -> bool
         || (found.begins_statement() && !found.before.in_procedure && word == Keyword::Lock)
 }
 
-// A word right after a number, as in `0x1F`.
+// A word right after a number, as in `0x1F`, or a comment where a number may stand, as in `put #ff`.
 #[tactic(auto, unfolding(crate::specs::Meant::decimal_digits))]
 fn decimal_digits(found: &Found<'_>) -> Option<&'static str>
     ensures { option_map (λ s. s.now) result ≡ decimal_digits (place_of found.now) }
@@ -343,6 +338,9 @@ fn decimal_digits(found: &Found<'_>) -> Option<&'static str>
     match (&found.kind, found.last()) {
         (Some(TokenKind::Name(_) | TokenKind::Keyword(_)), Some(TokenKind::Number(_)))
             if found.adjoins_word() => { Some(DIGITS) }
+        _ if found.expects(Choice::Number) && ends_in_marked_number(found.text) => Some(
+            "A `#` begins a comment: write numbers in decimal digits, as `255` for `#ff`.",
+        ),
         _ => None,
     }
 }

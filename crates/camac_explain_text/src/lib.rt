@@ -4,8 +4,9 @@
 
 mod byte;
 mod hint;
+mod marked;
 mod mistake;
 mod own;
 mod sentence;
 
-pub use sentence::text_sentence;
+pub use sentence::{TextTold, text_told};

@@ -1,14 +1,14 @@
-// The sentence on a text's fault.
+// What is told of a text's fault.
 
-ghost use Rattle.std.specs.Prelude.{◌≡◌, IfOk, option_map, string_bytes};
-ghost use Rattle.camac_explain_text_words.specs.Absent.{absent_of, absent_text};
+ghost use Rattle.std.specs.Prelude.{◌≡◌, IfOk, None, Some, option_map, string_bytes};
+ghost use Rattle.camac_explain_text_words.specs.Absent.{absent_of};
 ghost use Rattle.camac_tokens.specs.Words.{or_else};
 ghost use Rattle.camac_explain_text.specs.Hint.{hint_text};
 ghost use Rattle.camac_explain_text.specs.Meant.{word_before};
 ghost use Rattle.camac_explain_text.specs.Mistake.{outside_of_bodies};
 ghost use Rattle.camac_explain_text_place.specs.Place.{place_of};
-ghost use Rattle.camac_explain_text.specs.Text.{begins_like_a_plan, fault_text, is_buffer};
-ghost use Rattle.camac_explain_text.specs.Sentence.{absent_variable, arguments_text, byte_text, case_text, expected_sentence, is_of_another_language, is_value, missing_text, not_there, noun, number_text, other_byte_text, other_kind, other_text, start_text, taken, taken_text, undeclared, unexpected, with_hint};
+ghost use Rattle.camac_explain_text.specs.Text.{begins_like_a_plan, fault_said};
+ghost use Rattle.camac_explain_text.specs.Sentence.{absent_variable, arguments_said, byte_said, case_said, expected_sentence, found_said, is_of_another_language, is_value, missing_text, not_there, noun, number_text, other_byte_text, other_kind, other_text, said_of, start_text, taken, taken_text, undeclared, unexpected};
 
 use crate::byte::byte_hint;
 use crate::hint::{Hint, kind_hint, name_hint, unexpected_hint, word_before};
@@ -22,19 +22,30 @@ use std::alloc::{AllocError, Global};
 
 const PLAN_FIRST: &str = "This begins like a plan: PLAN comes first, then SCRIPT.";
 
+const DIVISOR: &str = "A divisor is a number of at least 1.";
+
+const NO_LOCK: &str = "A procedure has no `lock`: put the `call` into one.";
+
+/// What is told of a text's fault: a sentence on it, and a hint, which is its fix, where this fault has one of its own.
+#[derive(Drop)]
+pub struct TextTold {
+    pub sentence: Option<String>,
+    pub hint: Option<String>,
+}
+
 /// What the first rule that a text breaks knew, in this case, and what may be meant: so many bytes of the text are left from its fault on, where
 /// these choices were noted.
-pub fn text_sentence(
+pub fn text_told(
     alloc: Global,
     text: &[u8],
     case: TextCase,
     left: usize,
     noted: Choices,
-) -> Result<String, AllocError>
-    ensures { IfOk result (λ s. string_bytes s ≡ fault_text (begins_like_a_plan left text.now) noted text.now case left) }
+) -> Result<TextTold, AllocError>
+    ensures { IfOk result (λ t. said_of t ≡ fault_said (begins_like_a_plan left text.now) noted text.now case left) }
 {
     if begins_like_a_plan(text, left) {
-        return String::from_str(alloc, PLAN_FIRST);
+        return told(alloc, None, Some(Hint::Told(PLAN_FIRST)));
     }
     let found = Found::new(alloc, text, left, noted)?;
     case_told(alloc, &found, case)
@@ -45,55 +56,72 @@ fn begins_like_a_plan(text: &[u8], left: usize) -> bool
     ensures { result ≡ begins_like_a_plan left text.now }
 {
     match kind_at(text) {
-        Some(kind) => is_buffer(&kind),
+        Some(TokenKind::Name(name)) => name.as_bytes().starts_with(b"buffer"),
+        Some(_) => false,
         None => rest_of(text, left).starts_with(b"["),
     }
 }
 
-fn is_buffer(kind: &TokenKind) -> bool
-    ensures { result ≡ is_buffer kind.now }
-{
-    match kind {
-        TokenKind::Name(name) => name.as_bytes().starts_with(b"buffer"),
-        _ => false,
-    }
-}
-
-#[tactic(auto, unfolding(crate::specs::Sentence::case_text))]
-fn case_told(alloc: Global, found: &Found<'_>, case: TextCase) -> Result<String, AllocError>
-    ensures { IfOk result (λ s. string_bytes s ≡ case_text (place_of found.now) case) }
+#[tactic(auto, unfolding(crate::specs::Sentence::case_said))]
+fn case_told(alloc: Global, found: &Found<'_>, case: TextCase) -> Result<TextTold, AllocError>
+    ensures { IfOk result (λ t. said_of t ≡ case_said (place_of found.now) case) }
 {
     let word = Quote(found.word);
     match case {
         TextCase::Byte => byte_told(alloc, found),
         TextCase::Unexpected => unexpected(alloc, found),
-        TextCase::ZeroDivisor => {
-            format!(in alloc; "Found {word}. A divisor is a number of at least 1.")
-        }
-        TextCase::LockInProcedure => {
-            format!(in alloc; "A procedure has no `lock`: put the `call` into one.")
-        }
+        TextCase::ZeroDivisor => found_told(alloc, found.word, Some(Hint::Told(DIVISOR))),
+        TextCase::LockInProcedure => told(alloc, None, Some(Hint::Told(NO_LOCK))),
         TextCase::ArgumentCount { wanted } => {
             arguments_told(alloc, found.word, found.before.called(), wanted)
         }
-        TextCase::Number { most } => number_told(alloc, word, most),
+        TextCase::Number { most } => plain(alloc, number_told(alloc, word, most)?),
         TextCase::Taken { by } => taken(alloc, found, by),
-        TextCase::KeptTwice => format!(in alloc; "The variable {word} is kept twice."),
-        TextCase::CounterKept => {
-            format!(in alloc; "The `for` counts the variable {word}, which needs no `keep`.")
-        }
-        TextCase::MeasureKept => {
-            format!(in alloc; "The variable {word} is the measure after `by`, and needs no `keep`.")
-        }
+        TextCase::KeptTwice => plain(
+            alloc,
+            format!(in alloc; "The variable {word} is kept twice.")?,
+        ),
+        TextCase::CounterKept => plain(
+            alloc,
+            format!(in alloc; "The `for` counts the variable {word}, which needs no `keep`.")?,
+        ),
+        TextCase::MeasureKept => plain(
+            alloc,
+            format!(in alloc;
+                "The variable {word} is the measure after `by`, and needs no `keep`."
+            )?,
+        ),
         TextCase::Undeclared {
             wanted,
             found: what,
         } => undeclared(alloc, found, wanted, what),
-        TextCase::Limit(limit) => limit_told(alloc, found.word, limit),
-        TextCase::Branch => {
-            format!(in alloc; "The branch is {word} here, and there is only branch 1.")
-        }
+        TextCase::Limit(limit) => plain(alloc, limit_told(alloc, found.word, limit)?),
+        TextCase::Branch => plain(
+            alloc,
+            format!(in alloc; "The branch is {word} here, and there is only branch 1.")?,
+        ),
     }
+}
+
+fn plain(alloc: Global, sentence: String) -> Result<TextTold, AllocError>
+    ensures { IfOk result (λ t. said_of t ≡ (Some (string_bytes sentence), None)) }
+{
+    told(alloc, Some(sentence), None)
+}
+
+fn told(
+    alloc: Global,
+    sentence: Option<String>,
+    hint: Option<Hint<'_>>,
+) -> Result<TextTold, AllocError>
+    ensures { IfOk result (λ t. said_of t ≡ (option_map string_bytes sentence, option_map hint_text hint.entry)) }
+{
+    let Some(hint) = hint else {
+        let hint = None;
+        return Ok(TextTold { sentence, hint });
+    };
+    let hint = Some(format!(in alloc; "{hint}")?);
+    Ok(TextTold { sentence, hint })
 }
 
 // Of a number above the greatest that may stand there.
@@ -108,37 +136,18 @@ fn number_told(alloc: Global, token: Quote<'_>, most: u32) -> Result<String, All
     }
 }
 
-fn with_hint(alloc: Global, sentence: String, hint: Option<Hint<'_>>) -> Result<String, AllocError>
-    ensures { IfOk result (λ s. string_bytes s ≡ with_hint (string_bytes sentence) (option_map hint_text hint.entry)) }
-{
-    match hint {
-        Some(hint) => format!(in alloc; "{sentence} {hint}"),
-        None => Ok(sentence),
-    }
-}
-
 // Of a byte that begins no token: what is to be known, or a sign that the language does not have, or the byte.
-fn byte_told(alloc: Global, found: &Found<'_>) -> Result<String, AllocError>
-    ensures { IfOk result (λ s. string_bytes s ≡ byte_text (place_of found.now)) }
+fn byte_told(alloc: Global, found: &Found<'_>) -> Result<TextTold, AllocError>
+    ensures { IfOk result (λ t. said_of t ≡ byte_said (place_of found.now)) }
 {
     if let Some(hint) = byte_hint(found) {
         let sentence = other_byte_told(alloc, found.rest)?;
-        return with_hint(alloc, sentence, Some(hint));
+        return told(alloc, Some(sentence), Some(hint));
     }
     match found.absent_sign() {
-        Some(absent) => absent_told(alloc, absent),
-        None => other_byte_told(alloc, found.rest),
+        Some(absent) => told(alloc, None, Some(Hint::Absent(absent))),
+        None => plain(alloc, other_byte_told(alloc, found.rest)?),
     }
-}
-
-fn absent_told(alloc: Global, absent: Absent<'_>) -> Result<String, AllocError>
-    ensures { IfOk result (λ s. string_bytes s ≡ absent_text (absent_of absent.entry)) }
-{
-    format!(in alloc;
-        "camac has no {}; write {}.",
-        Quote(absent.spelled),
-        absent.write
-    )
 }
 
 fn other_byte_told(alloc: Global, rest: &[u8]) -> Result<String, AllocError>
@@ -153,14 +162,14 @@ fn other_byte_told(alloc: Global, rest: &[u8]) -> Result<String, AllocError>
 }
 
 #[tactic(auto, unfolding(crate::specs::Sentence::unexpected))]
-fn unexpected(alloc: Global, found: &Found<'_>) -> Result<String, AllocError>
-    ensures { IfOk result (λ s. string_bytes s ≡ unexpected (place_of found.now)) }
+fn unexpected(alloc: Global, found: &Found<'_>) -> Result<TextTold, AllocError>
+    ensures { IfOk result (λ t. said_of t ≡ unexpected (place_of found.now)) }
 {
     if let Some(own) = own_sentence(found) {
-        return format!(in alloc; "{own}");
+        return told(alloc, None, Some(own));
     }
     let sentence = expected_told(alloc, found.word, found.expected)?;
-    with_hint(alloc, sentence, unexpected_hint(found))
+    told(alloc, Some(sentence), unexpected_hint(found))
 }
 
 #[tactic(auto, unfolding(crate::specs::Sentence::expected_sentence))]
@@ -187,26 +196,31 @@ fn arguments_told(
     token: &[u8],
     procedure: Option<&[u8]>,
     wanted: usize,
-) -> Result<String, AllocError>
-    ensures { IfOk result (λ s. string_bytes s ≡ arguments_text token.now (option_map (λ n. n.now) procedure.entry) wanted) }
+) -> Result<TextTold, AllocError>
+    ensures { IfOk result (λ t. said_of t ≡ arguments_said token.now (option_map (λ n. n.now) procedure.entry) wanted) }
 {
-    let token = Quote(token);
     match procedure {
         Some(procedure) => {
             let count = wanted;
-            let takes = Hint::Takes { procedure, count };
-            format!(in alloc; "Found {token}. {takes}")
+            found_told(alloc, token, Some(Hint::Takes { procedure, count }))
         }
-        None => format!(in alloc; "Found {token}."),
+        None => found_told(alloc, token, None),
     }
 }
 
+fn found_told(alloc: Global, token: &[u8], hint: Option<Hint<'_>>) -> Result<TextTold, AllocError>
+    ensures { IfOk result (λ t. said_of t ≡ found_said token.now (option_map hint_text hint.entry)) }
+{
+    let start = start_told(alloc, token)?;
+    told(alloc, Some(format!(in alloc; "{start}.")?), hint)
+}
+
 #[tactic(auto, unfolding(crate::specs::Sentence::taken))]
-fn taken(alloc: Global, found: &Found<'_>, by: NameKind) -> Result<String, AllocError>
-    ensures { IfOk result (λ s. string_bytes s ≡ taken (place_of found.now) by) }
+fn taken(alloc: Global, found: &Found<'_>, by: NameKind) -> Result<TextTold, AllocError>
+    ensures { IfOk result (λ t. said_of t ≡ taken (place_of found.now) by) }
 {
     let sentence = taken_told(alloc, found.word, found.declared_line(), by)?;
-    with_hint(alloc, sentence, taken_hint(found))
+    told(alloc, Some(sentence), taken_hint(found))
 }
 
 fn taken_hint<'a>(found: &'a Found<'_>) -> Option<Hint<'a>>
@@ -240,19 +254,21 @@ fn undeclared(
     found: &Found<'_>,
     wanted: NameKind,
     what: camac_text::Found,
-) -> Result<String, AllocError>
-    ensures { IfOk result (λ s. string_bytes s ≡ undeclared (place_of found.now) wanted what) }
+) -> Result<TextTold, AllocError>
+    ensures { IfOk result (λ t. said_of t ≡ undeclared (place_of found.now) wanted what) }
 {
     let name = Quote(found.word);
     match what {
         camac_text::Found::Nothing => not_there(alloc, found, wanted),
         camac_text::Found::Other(kind) => other_kind(alloc, found, wanted, kind),
-        camac_text::Found::Itself => {
-            format!(in alloc; "The procedure {name} can be called only after its end.")
-        }
-        camac_text::Found::Hidden => {
-            format!(in alloc; "A procedure does not see the variable {name} of the script.")
-        }
+        camac_text::Found::Itself => plain(
+            alloc,
+            format!(in alloc; "The procedure {name} can be called only after its end.")?,
+        ),
+        camac_text::Found::Hidden => plain(
+            alloc,
+            format!(in alloc; "A procedure does not see the variable {name} of the script.")?,
+        ),
     }
 }
 
@@ -263,12 +279,12 @@ fn other_kind(
     found: &Found<'_>,
     wanted: NameKind,
     kind: NameKind,
-) -> Result<String, AllocError>
-    ensures { IfOk result (λ s. string_bytes s ≡ other_kind (place_of found.now) wanted kind) }
+) -> Result<TextTold, AllocError>
+    ensures { IfOk result (λ t. said_of t ≡ other_kind (place_of found.now) wanted kind) }
 {
     let line = found.declared_line();
     let sentence = other_told(alloc, found.word, line, wanted, kind)?;
-    with_hint(alloc, sentence, kind_hint(found, wanted, kind))
+    told(alloc, Some(sentence), kind_hint(found, wanted, kind))
 }
 
 fn other_told(
@@ -290,14 +306,14 @@ fn other_told(
 }
 
 #[tactic(auto, unfolding(crate::specs::Sentence::not_there))]
-fn not_there(alloc: Global, found: &Found<'_>, wanted: NameKind) -> Result<String, AllocError>
-    ensures { IfOk result (λ s. string_bytes s ≡ not_there (place_of found.now) wanted) }
+fn not_there(alloc: Global, found: &Found<'_>, wanted: NameKind) -> Result<TextTold, AllocError>
+    ensures { IfOk result (λ t. said_of t ≡ not_there (place_of found.now) wanted) }
 {
     if let Some(absent) = absent_variable(found, wanted) {
-        return absent_told(alloc, absent);
+        return told(alloc, None, Some(Hint::Absent(absent)));
     }
     let sentence = missing_told(alloc, found.word, wanted)?;
-    with_hint(alloc, sentence, name_hint(found, wanted))
+    told(alloc, Some(sentence), name_hint(found, wanted))
 }
 
 fn absent_variable<'a>(found: &'a Found<'_>, wanted: NameKind) -> Option<Absent<'a>>

@@ -1,8 +1,7 @@
 // The class and the name of each function code.
 
 ghost use Rattle.std.specs.Prelude.{◌≡◌};
-ghost use Rattle.camac_func.specs.Class.{class_of};
-ghost use Rattle.camac_func.specs.Names.{name_of};
+ghost use Rattle.camac_func.specs.Class.{class_of, name_of};
 
 use camac_word::Function;
 
@@ -79,7 +78,7 @@ pub fn class(function: Function) -> FunctionClass
 }
 
 /// The name of a function (EUR 4100, IEEE 583), in ASCII; `non-standard` or `reserved` where it has none of its own.
-#[tactic(auto, unfolding(crate::specs::Names::name_of))]
+#[tactic(auto, unfolding(crate::specs::Class::name_of))]
 pub fn name(function: Function) -> &'static str
     ensures { result.now ≡ name_of function }
 {

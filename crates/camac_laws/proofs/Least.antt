@@ -7,7 +7,7 @@ use Rattle.camac_lang.specs.Tree.{Procedure, Service, Item, next_table, next_lam
 use Rattle.camac_lang.proofs.Standing.{procedures_stand, services_stand}
 use Rattle.camac_range.specs.Number.{greatest}
 use Rattle.camac_branch.specs.Plan.{Layout}
-use Rattle.camac_names.specs.Link.{link_fault, unless, place_of, served_by, lams_fault, lam_bit, is_on, is_served, service_fault, served_fault, or_else, services_fault}
+use Rattle.camac_names.specs.Link.{link_fault, unless, at_lam, served_by, lams_fault, lam_bit, is_on, is_served, service_fault, served_fault, or_else, services_fault}
 use Rattle.camac_model.specs.Fine.{Bounds, annotated}
 use Rattle.camac_rules.specs.Fault.{Fault}
 use Rattle.camac_rules.specs.Refusal.{go_on, if_reached}
@@ -60,7 +60,7 @@ emptied_service plan lams earlier v None e = absurd (cc)
 emptied_service plan lams earlier v (Some l) e =
     let third : Option LinkFault = unless (nat_le v.words plan.buffer) EventAboveBuffer v.spot (Words v.words plan.buffer) None in
     let second : Option LinkFault = unless (not (is_served lams l earlier)) StationServedTwice v.spot (served_by lams l earlier) third in
-    let a = unless_parts (is_some (lam_bit plan l)) StationWithoutBit v.spot (place_of l) second e in
+    let a = unless_parts (is_some (lam_bit plan l)) StationWithoutBit v.spot (at_lam l) second e in
     let b = unless_parts (not (is_served lams l earlier)) StationServedTwice v.spot (served_by lams l earlier) third a.1 in
     unless_none (is_some (lam_bit plan l)) StationWithoutBit v.spot _ _ a.0
     (unless_none (not (is_served lams l (emptied earlier))) StationServedTwice v.spot _ _ (ap not (same_served lams l earlier) ∙ b.0)

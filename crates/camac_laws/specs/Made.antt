@@ -7,7 +7,7 @@ use Rattle.camac_branch.specs.Plan.{Layout, IsPlan, crate_waits}
 use Rattle.camac_model.specs.State.{State, fresh, stepped}
 use Rattle.camac_model.specs.Behaviour.{Behaviour, does, ends, stops, Action, reached}
 use Rattle.camac_model.specs.Value.{value, truth}
-use Rattle.camac_model.specs.Cycle.{Outcome, no_crate, no_answer, too_long, answered, outcome, after_lock}
+use Rattle.camac_model.specs.Cycle.{Outcome, answered, outcome, after_lock}
 use Rattle.camac_model.specs.Fine.{Bounds, most_turns, AreInRanges}
 use Rattle.camac_model.specs.Meaning.{Context, context, entered, for_state, meaning, block_meaning}
 use Rattle.camac_rules.specs.Accept.{Section, of_procedure, of_service, accept}
@@ -75,10 +75,8 @@ while_made (suc n) c body made none s =
 
 -- in a lock, once it is taken
 abbrev pub lock_made : ℕ → Outcome → (State → Made) → Made → State → Made
-lock_made c no_crate made none s = none
-lock_made c no_answer made none s = none
-lock_made c (too_long wait) made none s = none
 lock_made c (answered a rest) made none s = made (after_lock c a.wait rest s)
+lock_made c _ made none s = none
 
 -- none of these is made
 abbrev mutual

@@ -14,19 +14,19 @@ code_of (Answer rule line) = answer_code rule
 code_of (Event flaw) = event_code flaw.rule
 
 -- the line or the byte at which it is broken; none is told of a plan
-abbrev pub place_of : Refusal → List ℕ
-place_of (Plan rule) = []
-place_of (Text rule line) = codes " line " ++ decimal line
-place_of (Link rule line) = codes " line " ++ decimal line
-place_of (Check rule line) = codes " line " ++ decimal line
-place_of (Answer rule line) = codes " line " ++ decimal line
-place_of (Event flaw) = codes " byte " ++ decimal flaw.offset
+abbrev pub place_text : Refusal → List ℕ
+place_text (Plan rule) = []
+place_text (Text rule line) = codes " line " ++ decimal line
+place_text (Link rule line) = codes " line " ++ decimal line
+place_text (Check rule line) = codes " line " ++ decimal line
+place_text (Answer rule line) = codes " line " ++ decimal line
+place_text (Event flaw) = codes " byte " ++ decimal flaw.offset
 
 -- `refused CODE PLACE: MEANING`
 abbrev pub refusal_text : Refusal → List ℕ
-refusal_text r = codes "refused " ++ (code_of r).0 ++ place_of r ++ codes ": " ++ (code_of r).1 ++ codes "\n"
+refusal_text r = codes "refused " ++ (code_of r).0 ++ place_text r ++ codes ": " ++ (code_of r).1 ++ codes "\n"
 
 -- the same with a column: `refused CODE PLACE column COLUMN: MEANING`
 abbrev pub refusal_text_at : Refusal → (column : ℕ) → List ℕ
 refusal_text_at r column =
-    codes "refused " ++ (code_of r).0 ++ place_of r ++ codes " column " ++ decimal column ++ codes ": " ++ (code_of r).1 ++ codes "\n"
+    codes "refused " ++ (code_of r).0 ++ place_text r ++ codes " column " ++ decimal column ++ codes ": " ++ (code_of r).1 ++ codes "\n"

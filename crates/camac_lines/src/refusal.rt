@@ -1,7 +1,7 @@
 // The line of a refusal.
 
 ghost use Rattle.std.specs.Prelude.{◌≡◌, ◌≤◌, ◌+◌, ◌||◌, ◌++◌, length, is_err, decimal};
-ghost use Rattle.camac_lines.specs.Refusal.{code_of, place_of, refusal_text, refusal_text_at};
+ghost use Rattle.camac_lines.specs.Refusal.{code_of, place_text, refusal_text, refusal_text_at};
 ghost use Rattle.camac_word.specs.Watched.{inner_of, has_failed};
 ghost use Rattle.camac_word.specs.Writing.{Writes};
 
@@ -95,7 +95,7 @@ pub fn refusal_line_at(refusal: Refusal, column: usize) -> Line
 // Puts the line or the byte of a refusal at the end.
 fn push_place(text: &mut Line, refusal: Refusal)
     requires { length text.old ≤ 40 }
-    ensures text { text.new ≡ text.old ++ place_of refusal }
+    ensures text { text.new ≡ text.old ++ place_text refusal }
     ensures short { length text.new ≤ length text.old + 40 }
 {
     match refusal {

@@ -23,7 +23,7 @@ use Rattle.camac_esone.specs.Transfers.{NextAddress, q_stop_next, q_repeat_next,
 use Rattle.camac_model.specs.State.{State, Variables, Registers, stepped, set_at, with_variable, with_register, with_word}
 use Rattle.camac_model.specs.Behaviour.{ends, Action, then_do, given, decide, unless_wrong}
 use Rattle.camac_model.specs.Cycle.{cycle, sized, kept, take_lock, release}
-use Rattle.camac_model.specs.Fine.{IsWithin, most_turns}
+use Rattle.camac_model.specs.Fine.{IsWithinBounds, most_turns}
 use Rattle.camac_model.specs.Meaning.{act, sent, transfer_to, entered, returned, enter, effect, block_meaning, fits_size, for_turns, for_from, turns}
 use Rattle.camac_model.specs.Safe.{IsSafe}
 use Rattle.camac_model.specs.Transfer.{transfer}
@@ -41,7 +41,7 @@ module _ {V D C : ℕ} (h : Machine V D C) where
   abbrev plan : Layout
   plan = h.checked.now.plan
 
-  keeps : (s : State) → IsFineHere h (left_in h s) → IsWithin (bounds_of h) s
+  keeps : (s : State) → IsFineHere h (left_in h s) → IsWithinBounds (bounds_of h) s
   keeps s fine = keeps_rest plan (bounds_of h) h.checked.now.script _ s fine
 
   act_steps : (at : Address) (f : ℕ) (size : WordSize) (m : Move) (s : State) → s.answers ≡ blank ∷ [] → IsFineHere h (then_do (act plan at f size m s) (left_in h)) → s.steps ≤ (bounds_of h).steps
@@ -193,7 +193,7 @@ module _ {V D C : ℕ} (h : Machine V D C) where
       ∙ ap (λ o. then_do (given (value e1 (variables_here h)) (first o (Some z)) s) (left_in h)) (sym i2)
       ∙ ap (λ o. then_do (given (value e1 (variables_here h)) (first (value e2 (variables_here h)) o) s) (left_in h)) (sym i3)
 
-  keeps_block_then : (b : Block) (s : State) → IsFineHere h (then_do (block_meaning (context_in h.checked.now) most_turns b s) (left_in h)) → IsWithin (bounds_of h) s
+  keeps_block_then : (b : Block) (s : State) → IsFineHere h (then_do (block_meaning (context_in h.checked.now) most_turns b s) (left_in h)) → IsWithinBounds (bounds_of h) s
   keeps_block_then b s fine =
       keeps_block plan (bounds_of h) h.checked.now.script most_turns b s
       (fine_first plan (bounds_of h) (block_meaning (context_in h.checked.now) most_turns b s) (left_in h) (λ t f. keeps t f) fine)
@@ -239,7 +239,7 @@ module _ {V D C : ℕ} (h : Machine V D C) where
   lock_wants e body k is range opens can =
       record { awaits = (can.0, (can.1, range.0, range.1, opens)); goes = λ answers. rw is refl }
 
-  count_steps : (j x v w : ℕ) (b : Block) (s : State) → IsFineHere h (then_do (for_from j most_turns x v w (block_meaning (context_in h.checked.now) most_turns b) s) (left_in h)) → IsWithin (bounds_of h) s
+  count_steps : (j x v w : ℕ) (b : Block) (s : State) → IsFineHere h (then_do (for_from j most_turns x v w (block_meaning (context_in h.checked.now) most_turns b) s) (left_in h)) → IsWithinBounds (bounds_of h) s
   count_steps zero x v w b s fine = keeps s fine
   count_steps (suc j) x v w b s fine =
       keeps_for plan (bounds_of h) h.checked.now.script b (suc j) most_turns x v w s
@@ -253,7 +253,7 @@ module _ {V D C : ℕ} (h : Machine V D C) where
       let g2 = fine_given plan (bounds_of h) (values es (variables_here h)) (go g1.0) (state_of h []) (left_in h) g1.2 in
       some_is (values es (variables_here h)) g2.0 g2.1
 
-  routine_keeps : (p : ℕ) (run : ℕ → Action) → slice_get (context_in h.checked.now).routines p ≡ Some run → (s : State) → IsFineHere h (run most_turns s) → IsWithin (bounds_of h) s
+  routine_keeps : (p : ℕ) (run : ℕ → Action) → slice_get (context_in h.checked.now).routines p ≡ Some run → (s : State) → IsFineHere h (run most_turns s) → IsWithinBounds (bounds_of h) s
   routine_keeps p run e s fine =
       let q = procedure_of_routine plan h.checked.now.script p run e in
       keeps_block plan (bounds_of h) (before h.checked.now.script p) most_turns q.0.body s (subst (λ r. IsFineHere h (r most_turns s)) q.1 fine)

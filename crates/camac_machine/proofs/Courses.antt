@@ -21,7 +21,7 @@ use Rattle.camac_esone.specs.Transfers.{NextAddress, q_stop_next, q_repeat_next,
 use Rattle.camac_model.specs.State.{State, stepped, missed_with, with_variable}
 use Rattle.camac_model.specs.Behaviour.{does, ends, stops, overrun, Action, then_do, given, unless_wrong}
 use Rattle.camac_model.specs.Cycle.{cycle, after_cycle}
-use Rattle.camac_model.specs.Fine.{IsWithin, most_turns}
+use Rattle.camac_model.specs.Fine.{IsWithinBounds, most_turns}
 use Rattle.camac_model.specs.Meaning.{Context, sent, transfer_to, effect}
 use Rattle.camac_model.specs.Safe.{IsSafe}
 use Rattle.camac_model.specs.Transfer.{keep_word, transfer}
@@ -59,13 +59,13 @@ module _ {V D C : ℕ} (h : Machine V D C) where
   abbrev finish : ℕ → ℕ → List Bool → Action
   finish n x qs t = ends (with_variable x (n + tally qs) t)
 
-  ends_within : (n x : ℕ) (qs : List Bool) (t : State) → IsFineHere h (then_do (finish n x qs t) (left_in h)) → IsWithin (bounds_of h) t
+  ends_within : (n x : ℕ) (qs : List Bool) (t : State) → IsFineHere h (then_do (finish n x qs t) (left_in h)) → IsWithinBounds (bounds_of h) t
   ends_within n x qs t f =
       let w = keeps_rest plan (bounds_of h) h.checked.now.script _ (with_variable x (n + tally qs) t) f in
       record { cycles = w.cycles; words = w.words; steps = w.steps; are_words = w.are_words }
 
   -- a transfer that is fine begins within the bounds
-  left_within : (f : ℕ) (table : Option (List ℕ)) (left : Left) (x : ℕ) (qs : List Bool) (s : State) → IsFineHere h (then_do (transfer plan f (words_from left.tally table) left.next_address (finish left.tally x) qs [] s) (left_in h)) → IsWithin (bounds_of h) s
+  left_within : (f : ℕ) (table : Option (List ℕ)) (left : Left) (x : ℕ) (qs : List Bool) (s : State) → IsFineHere h (then_do (transfer plan f (words_from left.tally table) left.next_address (finish left.tally x) qs [] s) (left_in h)) → IsWithinBounds (bounds_of h) s
   left_within f table left x qs s fine =
       transfer_within plan f (words_from left.tally table) left.next_address (finish left.tally x) qs (bounds_of h) (left_in h) (ends_within left.tally x qs) s fine
 
@@ -398,7 +398,7 @@ module _ {V D C : ℕ} (h : Machine V D C) (k : Command) (t : Course) (table : O
   unfolding awaited
   goes_first answers = transfer_goes h.checked.now.plan k.f words_left left.next_address over [] (address_of k) k.mv p.1.1 p.1.2 a answers (state_of h (a ∷ answers))
 
-  within_after : (r : Reply) (u : State) → IsFineHere h (then_do (G [] r u) (left_in h)) → IsWithin (bounds_of h) (stepped (record u { words = words_after (words_sent table) bits r u.words }))
+  within_after : (r : Reply) (u : State) → IsFineHere h (then_do (G [] r u) (left_in h)) → IsWithinBounds (bounds_of h) (stepped (record u { words = words_after (words_sent table) bits r u.words }))
   within_after r u fine =
       left_within h k.f (words_sent table) left x (r.q ∷ []) (stepped (record u { words = words_after (words_sent table) bits r u.words }))
       (subst (λ (v : State). IsFineHere h (then_do (transfer h.checked.now.plan k.f words_left left.next_address over (r.q ∷ []) [] (stepped v)) (left_in h))) (keep_is left.tally (words_sent table) bits r u) fine)

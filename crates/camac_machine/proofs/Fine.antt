@@ -9,7 +9,7 @@ use Rattle.camac_branch.specs.Plan.{Layout, crate_waits}
 use Rattle.camac_model.specs.State.{State, stepped, with_word}
 use Rattle.camac_model.specs.Behaviour.{Behaviour, does, ends, stops, more, Action, then_do, given, decide, unless_wrong, reached, lock_taken}
 use Rattle.camac_model.specs.Cycle.{outcome, follow, cycle, make_cycle, after_cycle, take_lock, after_lock}
-use Rattle.camac_model.specs.Fine.{Bounds, AreWords, IsWithin, IsFine, most_turns}
+use Rattle.camac_model.specs.Fine.{Bounds, AreWords, IsWithinBounds, IsFine, most_turns}
 use Rattle.camac_model.specs.Laws.{HasGrown}
 use Rattle.camac_model.specs.Meaning.{context, for_state, for_turns, turns, block_meaning}
 use Rattle.camac_model.specs.Safe.{IsSafe}
@@ -51,18 +51,18 @@ module _ (plan : Layout) (k : Bounds) where
   fine_unless true go s rest h = (refl, h)
   fine_unless false go s rest h = absurd h.0
 
-  fine_reached : (b : Behaviour State) → IsFine plan k b → IsWithin k (reached b)
+  fine_reached : (b : Behaviour State) → IsFine plan k b → IsWithinBounds k (reached b)
   fine_reached (does p b) h = fine_reached b h.1
   fine_reached (ends s) h = h
   fine_reached (stops w s) h = h.1
 
   -- what is fine with what follows is fine by itself
-  pub fine_first : (b : Behaviour State) (go : Action) → ((s : State) → IsFine plan k (go s) → IsWithin k s) → IsFine plan k (then_do b go) → IsFine plan k b
+  pub fine_first : (b : Behaviour State) (go : Action) → ((s : State) → IsFine plan k (go s) → IsWithinBounds k s) → IsFine plan k (then_do b go) → IsFine plan k b
   fine_first (does p b) go keeps h = (h.0, fine_first b go keeps h.1)
   fine_first (ends s) go keeps h = keeps s h
   fine_first (stops w s) go keeps h = h
 
-  before : (s t : State) → HasGrown s t → IsWithin k t → IsWithin k s
+  before : (s t : State) → HasGrown s t → IsWithinBounds k t → IsWithinBounds k s
   before s t g h =
       let steps = g.steps in
       let cycles = g.cost in
@@ -74,18 +74,18 @@ module _ (plan : Layout) (k : Bounds) where
         are_words = prefix_words s.words g.words.0 (subst AreWords g.words.1 h.are_words);
       }
 
-  pub keeps_block : (script : Script) (n : ℕ) (b : Block) (s : State) → IsFine plan k (block_meaning (context plan script) n b s) → IsWithin k s
+  pub keeps_block : (script : Script) (n : ℕ) (b : Block) (s : State) → IsFine plan k (block_meaning (context plan script) n b s) → IsWithinBounds k s
   keeps_block script n b s h =
       before s (reached (block_meaning (context plan script) n b s)) (counts_grow plan script n b s)
       (fine_reached (block_meaning (context plan script) n b s) h)
 
-  before_step : (s : State) → IsWithin k (stepped s) → IsWithin k s
+  before_step : (s : State) → IsWithinBounds k (stepped s) → IsWithinBounds k s
   before_step s h = record { cycles = h.cycles; words = h.words; steps = let le = h.steps in omega (arith, le); are_words = h.are_words }
 
-  before_turn : (x v : ℕ) (s : State) → IsWithin k (for_state x v s) → IsWithin k s
+  before_turn : (x v : ℕ) (s : State) → IsWithinBounds k (for_state x v s) → IsWithinBounds k s
   before_turn x v s h = record { cycles = h.cycles; words = h.words; steps = let le = h.steps in omega (arith, le); are_words = h.are_words }
 
-  pub keeps_for : (script : Script) (b : Block) (j n x v last : ℕ) (s : State) → IsFine plan k (for_turns j n x v last (block_meaning (context plan script) most_turns b) s) → IsWithin k s
+  pub keeps_for : (script : Script) (b : Block) (j n x v last : ℕ) (s : State) → IsFine plan k (for_turns j n x v last (block_meaning (context plan script) most_turns b) s) → IsWithinBounds k s
   keeps_for script b zero n x v last s h = record { cycles = h.cycles; words = h.words; steps = h.steps; are_words = h.are_words }
   keeps_for script b (suc j) zero x v last s h = absurd h.0
   keeps_for script b (suc j) (suc n) x v last s h =
@@ -94,10 +94,10 @@ module _ (plan : Layout) (k : Bounds) where
       (keeps_block script most_turns b (for_state x v s)
       (fine_first (body (for_state x v s)) (for_turns j n x (v + 1) last body) (λ t f. keeps_for script b j n x (v + 1) last t f) h))
 
-  pub keeps_turns : (script : Script) (b : Block) (test : Condition) (n : ℕ) (s : State) → IsFine plan k (turns n test (block_meaning (context plan script) most_turns b) s) → IsWithin k s
+  pub keeps_turns : (script : Script) (b : Block) (test : Condition) (n : ℕ) (s : State) → IsFine plan k (turns n test (block_meaning (context plan script) most_turns b) s) → IsWithinBounds k s
   keeps_turns script b test zero s h = go (truth test s.variables s.q s.x) h
     where
-      go : (o : Option Bool) → IsFine plan k (decide o (stops more) ends s) → IsWithin k s
+      go : (o : Option Bool) → IsFine plan k (decide o (stops more) ends s) → IsWithinBounds k s
       go None f = absurd f.0
       go (Some true) f = absurd f.0
       go (Some false) f = f
@@ -106,12 +106,12 @@ module _ (plan : Layout) (k : Bounds) where
       go (λ f. before_step s (keeps_block script most_turns b (stepped s) (fine_first (body (stepped s)) (turns n test body) (λ t g. keeps_turns script b test n t g) f)))
       (truth test s.variables s.q s.x) h
     where
-      go : (IsFine plan k (then_do (block_meaning (context plan script) most_turns b (stepped s)) (turns n test (block_meaning (context plan script) most_turns b))) → IsWithin k s) → (o : Option Bool) → IsFine plan k (decide o (λ t. then_do (block_meaning (context plan script) most_turns b (stepped t)) (turns n test (block_meaning (context plan script) most_turns b))) ends s) → IsWithin k s
+      go : (IsFine plan k (then_do (block_meaning (context plan script) most_turns b (stepped s)) (turns n test (block_meaning (context plan script) most_turns b))) → IsWithinBounds k s) → (o : Option Bool) → IsFine plan k (decide o (λ t. then_do (block_meaning (context plan script) most_turns b (stepped t)) (turns n test (block_meaning (context plan script) most_turns b))) ends s) → IsWithinBounds k s
       go turn None f = absurd f.0
       go turn (Some true) f = turn f
       go turn (Some false) f = f
 
-  keeps_owed : (script : Script) (o : Owner) (s : State) → IsFine plan k (owed (context plan script) o s) → IsWithin k s
+  keeps_owed : (script : Script) (o : Owner) (s : State) → IsFine plan k (owed (context plan script) o s) → IsWithinBounds k s
   unfolding owed
   keeps_owed script nothing s h = h
   keeps_owed script (releases c) s h =
@@ -121,12 +121,12 @@ module _ (plan : Layout) (k : Bounds) where
   keeps_owed script (while_loop test n b) s h = keeps_turns script b test n s h
   keeps_owed script (returns p vs rs) s h = record { cycles = h.cycles; words = h.words; steps = h.steps; are_words = h.are_words }
 
-  keeps_left : (script : Script) (o : Open) (s : State) → IsFine plan k (left_of (context plan script) o s) → IsWithin k s
+  keeps_left : (script : Script) (o : Open) (s : State) → IsFine plan k (left_of (context plan script) o s) → IsWithinBounds k s
   keeps_left script o s h =
       keeps_block script most_turns o.block s
       (fine_first (block_meaning (context plan script) most_turns o.block s) (owed (context plan script) o.owner) (λ t f. keeps_owed script o.owner t f) h)
 
-  pub keeps_rest : (script : Script) (os : List Open) (s : State) → IsFine plan k (rest_in (context plan script) os s) → IsWithin k s
+  pub keeps_rest : (script : Script) (os : List Open) (s : State) → IsFine plan k (rest_in (context plan script) os s) → IsWithinBounds k s
   unfolding rest_in
   keeps_rest script [] s h = h
   keeps_rest script (o ∷ os) s h =
@@ -154,11 +154,11 @@ module _ (plan : Layout) (k : Bounds) where
       free false waits f = refl
 
   -- a lock that can be taken waits here for an answer
-  pub lock_within : (c : ℕ) (body : Action) (s : State) (rest : Action) → s.answers ≡ [] → IsFine plan k (then_do (given (crate_waits plan c) (λ waits t. take_lock c waits (t.branch c).locked body t) s) rest) → IsWithin k s
+  pub lock_within : (c : ℕ) (body : Action) (s : State) (rest : Action) → s.answers ≡ [] → IsFine plan k (then_do (given (crate_waits plan c) (λ waits t. take_lock c waits (t.branch c).locked body t) s) rest) → IsWithinBounds k s
   lock_within c body s rest e h =
       let g = fine_given (crate_waits plan c) (λ waits t. take_lock c waits (t.branch c).locked body t) s rest h in go (s.branch c).locked g.0 g.2
     where
-      go : (l : Bool) (waits : ℕ) → IsFine plan k (then_do (take_lock c waits l body s) rest) → IsWithin k s
+      go : (l : Bool) (waits : ℕ) → IsFine plan k (then_do (take_lock c waits l body s) rest) → IsWithinBounds k s
       go true waits f = absurd f.0
       go false waits f =
           let at = subst (λ left. IsFine plan k (then_do (follow c (outcome (Some waits) false left) (λ a more t. does (lock_taken c a.wait) (body (after_lock c a.wait more t))) s) rest)) e f in at.1

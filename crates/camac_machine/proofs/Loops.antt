@@ -9,7 +9,7 @@ use Rattle.camac_lang.specs.View.{part_of, statements_of}
 use Rattle.camac_branch.specs.Branch.{Answer}
 use Rattle.camac_model.specs.State.{State, Variables, stepped}
 use Rattle.camac_model.specs.Behaviour.{Behaviour, ends, stops, more, Action, then_do, given, decide}
-use Rattle.camac_model.specs.Fine.{IsWithin, most_turns}
+use Rattle.camac_model.specs.Fine.{IsWithinBounds, most_turns}
 use Rattle.camac_model.specs.Meaning.{Context, for_state, for_turns, for_from, turns, effect, block_meaning}
 use Rattle.camac_model.specs.Value.{value, truth}
 use Rattle.camac_machine.specs.declared.machine.Frame.{Frame}
@@ -30,7 +30,7 @@ module _ {V D C : ℕ} (h : Machine V D C) where
   abbrev does_all : Block → Action
   does_all b = block_meaning ctx most_turns b
 
-  keeps : (t : State) → IsFineHere h (left_in h t) → IsWithin (bounds_of h) t
+  keeps : (t : State) → IsFineHere h (left_in h t) → IsWithinBounds (bounds_of h) t
   keeps t f = keeps_rest h.checked.now.plan (bounds_of h) h.checked.now.script _ t f
 
   -- the same by another way to say what is to be done

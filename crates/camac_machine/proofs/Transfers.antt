@@ -13,7 +13,7 @@ use Rattle.camac_esone.specs.Transfers.{NextAddress, tally}
 use Rattle.camac_model.specs.State.{State, stepped, with_variable, with_word}
 use Rattle.camac_model.specs.Behaviour.{ends, stops, short, Action, then_do, given}
 use Rattle.camac_model.specs.Cycle.{cycle, make_cycle, kept}
-use Rattle.camac_model.specs.Fine.{Bounds, IsWithin, IsFine}
+use Rattle.camac_model.specs.Fine.{Bounds, IsWithinBounds, IsFine}
 use Rattle.camac_model.specs.Meaning.{transfer_to}
 use Rattle.camac_model.specs.Safe.{IsSafe}
 use Rattle.camac_model.specs.Transfer.{transfer_data, keep_word, request, transfer}
@@ -118,10 +118,10 @@ module _ (plan : Layout) (f : ℕ) (table : Option (List ℕ)) (next_address : N
 
   -- what is known where it is fine to go on with it, and then with the rest
   module _ (k : Bounds) (rest : Action) where
-    pub transfer_within : ((t : State) → IsFine plan k (then_do (finish qs t) rest) → IsWithin k t) → (s : State) → IsFine plan k (then_do (transfer plan f table next_address finish qs [] s) rest) → IsWithin k s
+    pub transfer_within : ((t : State) → IsFine plan k (then_do (finish qs t) rest) → IsWithinBounds k t) → (s : State) → IsFine plan k (then_do (transfer plan f table next_address finish qs [] s) rest) → IsWithinBounds k s
     transfer_within keeps s h = go (next_address qs) h
       where
-        go : (o : Option Address) → IsFine plan k (then_do (request o (λ at. given (transfer_data table qs) (λ d. cycle plan at f d [] (λ r. stops short))) (finish qs) s) rest) → IsWithin k s
+        go : (o : Option Address) → IsFine plan k (then_do (request o (λ at. given (transfer_data table qs) (λ d. cycle plan at f d [] (λ r. stops short))) (finish qs) s) rest) → IsWithinBounds k s
         go None f = keeps s f
         go (Some at) g =
             let g1 = fine_given plan k (transfer_data table qs) (λ d. cycle plan at f d [] (λ r. stops short)) s rest g in

@@ -94,11 +94,8 @@ asked (Some w) = if is_pause (pending_of w) then None else Some w
 
 -- a transfer goes on after a cycle that it wanted, and sets one of so many variables
 abbrev pub CanFollow : ℕ → Pending → Type 0
-CanFollow v (Cycle k) = Unit {0}
-CanFollow v (Read k x bits) = Unit {0}
-CanFollow v (Lock k body) = Unit {0}
 CanFollow v (pending.Transfer w) = (w.tally < v) × IsSome ((left_at w.course).next_address [])
-CanFollow v Pause = Unit {0}
+CanFollow v _ = Unit {0}
 
 -- the first statement of the innermost of open blocks is taken off it
 pub record TakesFirst (old : List Frame) (first : Stmt) (new : List Frame) : Type 0 where
@@ -184,11 +181,8 @@ piece_of (item.Demand p v) = demanded p v
 
 -- how many of the open blocks hold the lock of crate c
 abbrev pub holds : ℕ → Owner → ℕ
-holds c nothing = 0
 holds c (releases k) = if nat_eq c k then 1 else 0
-holds c (for_loop x v last n body) = 0
-holds c (while_loop test n body) = 0
-holds c (returns p vs rs) = 0
+holds c _ = 0
 
 abbrev pub times_held : ℕ → List Open → ℕ
 times_held c [] = 0

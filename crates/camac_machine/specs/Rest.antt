@@ -32,11 +32,8 @@ pub data Operation : Type 0 where
   pauses : Operation
 
 abbrev pub is_pause : Operation → Bool
-is_pause (makes k) = false
-is_pause (reads k x bits) = false
-is_pause (locks k body) = false
-is_pause (transfers course f table x) = false
 is_pause pauses = true
+is_pause _ = false
 
 -- whether a service in progress pauses, and whether it wants an answer
 abbrev pub is_paused : Option Operation → Bool
@@ -65,11 +62,8 @@ awaited c pauses s = ends s
 
 -- what is left of a statement after the answer that it wanted: further cycles of a transfer, by the Q of this one
 unfoldable pub follows : Context → Operation → Action
-follows c (makes k) s = ends s
-follows c (reads k x bits) s = ends s
-follows c (locks k body) s = ends s
 follows c (transfers course f table x) s = transfer_left c.plan f table (left_at course) x (s.q ∷ []) s
-follows c pauses s = ends s
+follows c _ s = ends s
 
 -- what goes on after a block: nothing but the block around it, or the release of a lock; or a `for` after the turn with this value of its
 -- variable, or a `while`, each with the turns that it may still make; or a procedure's caller, by what it sees and what that holds

@@ -110,11 +110,8 @@ OwnerFits v s c d (returns p vs rs) = IsAfter p c × ScopeFits v s p
 
 -- what is seen once a block is over
 abbrev pub outer : Scope → Owner → Scope
-outer c nothing = c
-outer c (releases k) = c
-outer c (for_loop x i last n body) = c
-outer c (while_loop test n body) = c
 outer c (returns p vs rs) = p
+outer c _ = c
 
 -- what is seen once all these blocks are over, the last of which sees c
 abbrev pub outside : Scope → List Open → Scope

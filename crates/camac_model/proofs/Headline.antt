@@ -10,7 +10,7 @@ use Rattle.camac_model.specs.Meaning.{context}
 use Rattle.camac_model.specs.Run.{Chosen, event_of, service_meaning, the_run}
 use Rattle.camac_model.specs.Safe.{IsSafePiece}
 use Rattle.camac_model.specs.Laws.{NoneLocked}
-use Rattle.camac_model.specs.Fine.{most_turns, Bounds, IsWithin, IsOfAnswers, IsFine, IsFineService, AreFine, AreFineServices}
+use Rattle.camac_model.specs.Fine.{most_turns, Bounds, IsWithinBounds, IsOfAnswers, IsFine, IsFineService, AreFine, AreFineServices}
 use Rattle.camac_model.specs.Moments.{Any, AnyStop}
 use Rattle.camac_model.specs.Headline.{Moment, first_moment, moment_after, begun, InService, WordsFit, FewAnswers, EventCost, StepsFit, EventFits, CostStays, IsShortOfAnswers, Locked, locked_after, NoneHeld, AreSafe, no_count, nothing, IsOver, FineServicesRun}
 use Rattle.camac_model.proofs.Rules.{Meets}
@@ -104,15 +104,15 @@ module _ (i : ℕ) (rest : List Answer) (plan : Layout) (ks : List Bounds) (k : 
   progress_of : (s : State) → IsHere i rest m s → m.progress ≡ (here i rest s).progress
   progress_of s e = ap (λ x. x.progress) e
 
-  words_here : (s : State) → IsHere i rest m s → IsWithin k s → InService ks m (WordsFit s.words)
+  words_here : (s : State) → IsHere i rest m s → IsWithinBounds k s → InService ks m (WordsFit s.words)
   words_here s e h =
       in_service i rest plan ks k its m s.cost (WordsFit s.words) (progress_of s e) (record { most = h.words; are_words = h.are_words })
 
-  steps_here : (s : State) → IsHere i rest m s → IsWithin k s → InService ks m (StepsFit s)
+  steps_here : (s : State) → IsHere i rest m s → IsWithinBounds k s → InService ks m (StepsFit s)
   steps_here s e h =
       in_service i rest plan ks k its m s.cost (StepsFit s) (progress_of s e) (record { counted = refl; most = h.cycles; steps = h.steps })
 
-  event_here : (bit : ℕ) (s : State) → IsHere i rest m s → IsWithin k s → InService ks m (EventCost (event_of bit s))
+  event_here : (bit : ℕ) (s : State) → IsHere i rest m s → IsWithinBounds k s → InService ks m (EventCost (event_of bit s))
   event_here bit s e h =
       in_service i rest plan ks k its m s.cost (EventCost (event_of bit s)) (progress_of s e) (record { counted = refl; most = h.cycles })
 

@@ -1,12 +1,6 @@
 pub mod SampleScripts
 mod StraightRows
-mod TransferRows
 mod ControlRows
-mod ControllerRows
-mod DemandRows
-mod LockRows
-mod ProcedureRows
-mod SafeRows
 mod SamplePlan
 pub mod Extends
 pub mod Rules
@@ -19,7 +13,6 @@ pub mod AnswersUsed
 pub mod KeptWords
 pub mod Locks
 pub mod Short
-pub mod Fine
 pub mod Rounds
 pub mod Services
 pub mod Headline

@@ -6,7 +6,7 @@ use Rattle.camac_branch.specs.Plan.{Layout}
 use Rattle.camac_model.specs.State.{State}
 use Rattle.camac_model.specs.Behaviour.{Piece, demanded, cycled, lock_taken, lock_released, event_left, piece_cost, Behaviour, does, ends, stops, Stop}
 use Rattle.camac_model.specs.Cycle.{after_cycle, after_lock, after_release}
-use Rattle.camac_model.specs.Fine.{Bounds, IsWithin, IsOfAnswers, IsFine}
+use Rattle.camac_model.specs.Fine.{Bounds, IsWithinBounds, IsOfAnswers, IsFine}
 use Rattle.camac_model.specs.Headline.{Progress, Moment, moment_after, spent, InService, CostFits}
 use Rattle.camac_model.specs.Laws.{ShortOnlyOf}
 use Rattle.camac_model.proofs.Rules.{Meets}
@@ -106,12 +106,12 @@ module _ (i : ℕ) (answers : List Answer) where
     pub record AtStop (m : Moment) (w : Stop) (s : State) : Type 0 where
       pub is_here : IsHere m s
       pub of_answers : IsOfAnswers w
-      pub within : IsWithin k s
+      pub within : IsWithinBounds k s
       pub few : ShortOnlyOf answers (stops w s)
 
     pub record AtEnd (m : Moment) (s : State) : Type 0 where
       pub is_here : IsHere m s
-      pub within : IsWithin k s
+      pub within : IsWithinBounds k s
 
     -- all of it together
     pub fine_walk : (m : Moment) (b : Behaviour State) → Walks m b → IsFine plan k b → ShortOnlyOf answers b → Meets moment_after AtPiece AtStop AtEnd m b

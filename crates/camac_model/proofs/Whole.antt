@@ -6,8 +6,7 @@ use Rattle.std.proofs.lemmas.Bool.{leb-true, le-leb, eqb-false, ne_eqb}
 use Rattle.camac_lang.specs.Tree.{Expression, number, variable, group, add, subtract, multiply, divide, remainder}
 use Rattle.camac_model.specs.State.{Variables}
 use Rattle.camac_model.specs.Value.{greatest, in_range, difference, quotient, rest_of, value, both}
-use Rattle.camac_model.specs.Whole.{whole, AreNumbers, ValuesAreWhole}
-use Rattle.camac_model.specs.Laws.{InRange, NumbersInRange, ValuesInRange}
+use Rattle.camac_model.specs.Laws.{whole, AreNumbers, ValuesAreWhole, InRange, NumbersInRange, ValuesInRange}
 
 -- Where an expression has a value, each number in it is from 0 to M.
 

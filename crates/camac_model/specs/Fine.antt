@@ -25,7 +25,7 @@ AreWords [] = Unit {0}
 AreWords (w ∷ ws) = (w < 2 ^ 24) × AreWords ws
 
 -- a service in this state is within its bounds
-pub record IsWithin (k : Bounds) (s : State) : Type 0 where
+pub record IsWithinBounds (k : Bounds) (s : State) : Type 0 where
   pub cycles : s.cost ≤ k.cycles
   pub words : length s.words ≤ k.words
   pub steps : s.steps ≤ k.steps
@@ -41,8 +41,8 @@ IsOfAnswers more = ⊥
 -- every cycle is safe, and it is within its bounds where it ends or stops
 abbrev pub IsFine : Layout → Bounds → Behaviour State → Type 0
 IsFine plan k (does p b) = IsSafePiece plan p × IsFine plan k b
-IsFine plan k (ends s) = IsWithin k s
-IsFine plan k (stops w s) = IsOfAnswers w × IsWithin k s
+IsFine plan k (ends s) = IsWithinBounds k s
+IsFine plan k (stops w s) = IsOfAnswers w × IsWithinBounds k s
 
 -- a service is fine whatever the branch is like and answers. Said of every list of answers this is 'at every moment': each moment is where
 -- the service is short on fewer answers, and its counts only grow (`CountsGrow`)

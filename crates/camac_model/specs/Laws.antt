@@ -1,5 +1,5 @@
 -- Laws of the meaning, on which every later proof stands.
-use Rattle.std.specs.Prelude.{◌≡◌, ◌≢◌, ℕ, ◌+◌, ◌^◌, ◌<◌, ◌≤◌, length, List, [], ◌∷◌, ◌++◌, Option, Some, None, Bool, true, false, min, drop}
+use Rattle.std.specs.Prelude.{◌≡◌, ◌≢◌, ℕ, ◌+◌, ◌^◌, ◌<◌, ◌≤◌, length, List, [], ◌∷◌, ◌++◌, Option, Some, None, Bool, true, false, min, drop, ◌↔◌, ℤ, pos, ◌+ℤ◌, ◌-ℤ◌, ◌*ℤ◌}
 use Rattle.camac_lang.specs.Tree.{Expression, number, variable, group, add, subtract, multiply, divide, remainder, Block, done, next, Service, Script}
 use Rattle.camac_lang.specs.declared.word.WordSize.{WordSize}
 use Rattle.camac_branch.specs.Address.{Address}
@@ -8,10 +8,11 @@ use Rattle.camac_branch.specs.Branch.{Branch, Answer, Reply}
 use Rattle.camac_branch.specs.Plan.{Layout, IsPlan}
 use Rattle.camac_model.specs.State.{State, Variables}
 use Rattle.camac_model.specs.Value.{greatest, value}
-use Rattle.camac_model.specs.Behaviour.{Behaviour, does, ends, stops, Stop, short, overrun, wrong, more, Action, then_do, Piece, demanded, cycled, lock_taken, lock_released, event_left, pieces, items, events, Event, reached, stop_of, cost, without_x, misses, uses}
+use Rattle.camac_model.specs.Behaviour.{Behaviour, does, ends, stops, Stop, short, more, Action, then_do, Piece, demanded, cycled, lock_taken, lock_released, event_left, pieces, items, events, Event, reached, stop_of, cost, without_x, misses, uses}
 use Rattle.camac_model.specs.Meaning.{Context, context, block_meaning}
 use Rattle.camac_model.specs.Run.{service_meaning, rounds, run}
 use Rattle.camac_model.specs.Cycle.{sized, kept}
+use Rattle.std.specs.Int.{int_div_euclid, int_rem_euclid}
 
 -- a value from 0 to M
 abbrev pub InRange : Option ℕ → Type 0
@@ -71,9 +72,7 @@ RunEnd bs u b = bs ≡ [] → b ≡ ends tt
 
 abbrev pub is_short : Stop → Bool
 is_short short = true
-is_short (overrun c w) = false
-is_short wrong = false
-is_short more = false
+is_short _ = false
 
 -- with more turns a behaviour that wanted no further one is the same
 abbrev pub TurnsSuffice : Type 0
@@ -141,11 +140,8 @@ used_with u (lock_released c) = u
 used_with u (event_left e) = u
 
 abbrev pub TellsUsage : Usage → Piece → Type 0
-TellsUsage u (demanded p v) = Unit {0}
-TellsUsage u (cycled at f d r w) = Unit {0}
-TellsUsage u (lock_taken c w) = Unit {0}
-TellsUsage u (lock_released c) = Unit {0}
 TellsUsage u (event_left e) = (e.cycles ≡ u.cycles) × (e.missed ≡ min 65535 u.missed)
+TellsUsage u _ = Unit {0}
 
 abbrev pub EventsTell : Usage → List Piece → Type 0
 EventsTell u [] = Unit {0}
@@ -166,11 +162,8 @@ EndsWith Q (stops w s) = Unit {0}
 -- where it is short, no answer is left, and it began with fewer than it has made steps
 abbrev pub ShortOnlyOf : List Answer → Behaviour State → Type 0
 ShortOnlyOf answers (does p b) = ShortOnlyOf answers b
-ShortOnlyOf answers (ends s) = Unit {0}
 ShortOnlyOf answers (stops short s) = (length answers < s.steps) × (s.answers ≡ [])
-ShortOnlyOf answers (stops (overrun c w) s) = Unit {0}
-ShortOnlyOf answers (stops wrong s) = Unit {0}
-ShortOnlyOf answers (stops more s) = Unit {0}
+ShortOnlyOf answers _ = Unit {0}
 
 -- a service is short only where there were fewer answers than its steps, and none is left
 abbrev pub ServicesShort : Type 0
@@ -221,3 +214,36 @@ abbrev pub ReadsKeepWords : Type 0
 ReadsKeepWords =
     (plan : Layout) → IsPlan plan → (at : Address) (f : ℕ) (size : WordSize) (r : Reply)
     → (kept (sized size (width plan at f)) r < 2 ^ width plan at f) × (kept (sized size (width plan at f)) r < 2 ^ 24)
+
+-- The value of an expression over whole numbers of any size and sign, and where the value of the meaning is that.
+
+-- a quotient is rounded down; a divisor is a number of the script
+abbrev pub whole : Expression → Variables → ℤ
+whole (number n) env = pos n
+whole (variable x) env = pos (env x)
+whole (group e) env = whole e env
+whole (add a b) env = whole a env +ℤ whole b env
+whole (subtract a b) env = whole a env -ℤ whole b env
+whole (multiply a b) env = whole a env *ℤ whole b env
+whole (divide e d) env = int_div_euclid (whole e env) (pos d)
+whole (remainder e d) env = int_rem_euclid (whole e env) (pos d)
+
+-- from 0 to M
+abbrev pub IsNumber : ℤ → Type 0
+IsNumber z = (n : ℕ) × (z ≡ pos n) × (n ≤ greatest)
+
+-- an expression and each operand in it is from 0 to M, and no divisor is 0
+abbrev pub AreNumbers : Expression → Variables → Type 0
+AreNumbers (number n) env = n ≤ greatest
+AreNumbers (variable x) env = env x ≤ greatest
+AreNumbers (group e) env = AreNumbers e env
+AreNumbers (add a b) env = IsNumber (whole a env +ℤ whole b env) × AreNumbers a env × AreNumbers b env
+AreNumbers (subtract a b) env = IsNumber (whole a env -ℤ whole b env) × AreNumbers a env × AreNumbers b env
+AreNumbers (multiply a b) env = IsNumber (whole a env *ℤ whole b env) × AreNumbers a env × AreNumbers b env
+AreNumbers (divide e d) env = (d ≢ 0) × AreNumbers e env
+AreNumbers (remainder e d) env = (d ≢ 0) × AreNumbers e env
+
+-- the value is that over whole numbers, and it is there exactly where all of them are numbers
+unfoldable pub ValuesAreWhole : Type 0
+ValuesAreWhole =
+    (e : Expression) (env : Variables) (v : ℕ) → (value e env ≡ Some v) ↔ ((whole e env ≡ pos v) × AreNumbers e env)

@@ -1,7 +1,6 @@
 pub mod State
 pub mod Behaviour
 pub mod Value
-pub mod Whole
 pub mod Cycle
 pub mod Transfer
 pub mod Meaning

@@ -6,7 +6,7 @@ use Rattle.camac_branch.specs.Plan.{Layout}
 use Rattle.camac_esone.specs.Transfers.{tally, q_stop_next, q_repeat_next, scan_next}
 use Rattle.camac_esone.specs.Lists.{Cycle, replies, IsQStopList, IsQRepeatList, IsScanList, IsCut}
 use Rattle.camac_model.specs.State.{State}
-use Rattle.camac_model.specs.Behaviour.{Piece, demanded, cycled, lock_taken, lock_released, event_left, Behaviour, Stop, pieces, reached, stop_of}
+use Rattle.camac_model.specs.Behaviour.{Piece, cycled, Behaviour, Stop, pieces, reached, stop_of}
 use Rattle.camac_model.specs.Cycle.{kept}
 use Rattle.camac_model.specs.Transfer.{transfer_data}
 use Rattle.camac_model.specs.Meaning.{transfer_to}
@@ -14,11 +14,8 @@ use Rattle.camac_model.specs.Moments.{Meets, Any, AnyStop}
 
 -- the cycle of a piece, if it is one: where it goes, and the Q of its reply
 abbrev pub cycle_in : Piece → List Cycle
-cycle_in (demanded p v) = []
 cycle_in (cycled at f d r w) = record { at = at; q = r.q } ∷ []
-cycle_in (lock_taken c w) = []
-cycle_in (lock_released c) = []
-cycle_in (event_left e) = []
+cycle_in _ = []
 
 abbrev pub cycles_in : List Piece → List Cycle
 cycles_in [] = []
@@ -26,11 +23,8 @@ cycles_in (p ∷ ps) = cycle_in p ++ cycles_in ps
 
 -- the word that a read keeps of a cycle: one with Q=1, cut to the width of its address
 abbrev pub word_in : Layout → Piece → List ℕ
-word_in plan (demanded p v) = []
 word_in plan (cycled at f d r w) = if r.q then kept (width plan at f) r ∷ [] else []
-word_in plan (lock_taken c w) = []
-word_in plan (lock_released c) = []
-word_in plan (event_left e) = []
+word_in plan _ = []
 
 abbrev pub words_in : Layout → List Piece → List ℕ
 words_in plan [] = []
@@ -63,11 +57,8 @@ with_piece ps p = ps ++ p ∷ []
 
 -- a cycle reads, or sends the word of the table whose index is the number of Q=1 before it
 abbrev pub MovesNext : Option (List ℕ) → List Piece → Piece → Type 0
-MovesNext table ps (demanded p v) = ⊥
 MovesNext table ps (cycled at f d r w) = transfer_data table (replies (cycles_in ps)) ≡ Some d
-MovesNext table ps (lock_taken c w) = ⊥
-MovesNext table ps (lock_released c) = ⊥
-MovesNext table ps (event_left e) = ⊥
+MovesNext table ps _ = ⊥
 
 pub record IsTransfer (plan : Layout) (table : Option (List ℕ)) (x : ℕ) (IsList : List Cycle → Type 0) (before : State) (b : Behaviour State) : Type 0 where
   pub ended : stop_of b ≡ None → Ended plan table x IsList before (pieces b) (reached b)

@@ -6,7 +6,7 @@ use Rattle.camac_names.specs.declared.fault.LinkCase.{LinkCase}
 use Rattle.camac_names.specs.declared.fault.LinkFault.{LinkFault}
 use Rattle.camac_names.specs.declared.fault.LinkRule.{LinkRule}
 use Rattle.camac_names.specs.declared.fault.LinkRule.TheVariants.{LamNotInstalled}
-use Rattle.camac_names.specs.Link.{unless, place_of, fault_first, lam_fault, lams_fault, lams_faults, or_else, service_fault, services_fault, services_faults, FirstIsLinkFault}
+use Rattle.camac_names.specs.Link.{unless, at_lam, fault_first, lam_fault, lams_fault, lams_faults, or_else, service_fault, services_fault, services_faults, FirstIsLinkFault}
 use Rattle.camac_lang.specs.declared.spot.Spot.{Spot}
 
 -- of a fault, if there is one, and others
@@ -32,7 +32,7 @@ lams_first : (plan : Layout) (ls : List Lam) → slice_get (lams_faults plan ls)
 lams_first plan [] = refl
 lams_first plan (l ∷ ls) =
     first_or (lam_fault plan l) (lams_faults plan ls) ∙ ap (or_else (lam_fault plan l)) (lams_first plan ls)
-    ∙ unless_else (is_some (installed plan l.crate_no l.station)) LamNotInstalled l.spot (place_of l) (lams_fault plan ls)
+    ∙ unless_else (is_some (installed plan l.crate_no l.station)) LamNotInstalled l.spot (at_lam l) (lams_fault plan ls)
 
 pub first_is_link_fault : FirstIsLinkFault
 first_is_link_fault plan script =

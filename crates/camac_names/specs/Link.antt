@@ -16,17 +16,17 @@ abbrev pub unless : Bool → LinkRule → Spot → LinkCase → Option LinkFault
 unless test rule spot case next = if test then next else Some (Broken rule spot case)
 
 -- where a LAM stands
-abbrev pub place_of : Lam → LinkCase
-place_of l = Place l.crate_no l.station
+abbrev pub at_lam : Lam → LinkCase
+at_lam l = Place l.crate_no l.station
 
 -- L1 of a LAM
 abbrev pub lam_fault : Layout → Lam → Option LinkFault
-lam_fault plan l = unless (is_some (installed plan l.crate_no l.station)) LamNotInstalled l.spot (place_of l) None
+lam_fault plan l = unless (is_some (installed plan l.crate_no l.station)) LamNotInstalled l.spot (at_lam l) None
 
 -- L1 of each LAM in text order
 abbrev pub lams_fault : Layout → List Lam → Option LinkFault
 lams_fault plan [] = None
-lams_fault plan (l ∷ ls) = unless (is_some (installed plan l.crate_no l.station)) LamNotInstalled l.spot (place_of l) (lams_fault plan ls)
+lams_fault plan (l ∷ ls) = unless (is_some (installed plan l.crate_no l.station)) LamNotInstalled l.spot (at_lam l) (lams_fault plan ls)
 
 -- the graded-L bit of a service: that of its LAM's station
 abbrev pub lam_bit : Layout → Lam → Option ℕ
@@ -61,7 +61,7 @@ served_by lams l earlier = Served l.crate_no l.station (unwrap_or (first_spot la
 abbrev pub served_fault : Layout → List Lam → List Service → Service → Option Lam → Option LinkFault
 served_fault plan lams earlier v None = Some (Broken LamNotInstalled v.spot Malformed)
 served_fault plan lams earlier v (Some l) =
-    unless (is_some (lam_bit plan l)) StationWithoutBit v.spot (place_of l)
+    unless (is_some (lam_bit plan l)) StationWithoutBit v.spot (at_lam l)
     (unless (not (is_served lams l earlier)) StationServedTwice v.spot (served_by lams l earlier)
     (unless (nat_le v.words plan.buffer) EventAboveBuffer v.spot (Words v.words plan.buffer) None))
 

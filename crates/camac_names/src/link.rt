@@ -4,7 +4,7 @@ ghost use Rattle.std.specs.Prelude.{◌≡◌, ◌≢◌, ◌<◌, ◌≤◌, le
 ghost use Rattle.std.specs.Result.{result_err};
 ghost use Rattle.camac_lang.specs.View.{lam_of, service_of};
 ghost use Rattle.camac_branch.specs.Plan.{IsPlan, installed, gl};
-ghost use Rattle.camac_names.specs.Link.{lam_fault, lams_fault, lams_faults, services_faults, link_faults, service_bit, same_station, is_there, is_served, first_spot, place_of, service_fault, services_fault, link_fault};
+ghost use Rattle.camac_names.specs.Link.{lam_fault, lams_fault, lams_faults, services_faults, link_faults, service_bit, same_station, is_there, is_served, first_spot, at_lam, service_fault, services_fault, link_fault};
 
 use crate::fault::{LinkCase, LinkFault, LinkRule};
 use crate::linked::Linked;
@@ -92,7 +92,7 @@ fn lam_fault(lam: &Lam, plan: &Plan) -> Option<LinkFault>
     if is_installed(plan, lam.crate_no, lam.station) {
         return None;
     }
-    Some(broken(LinkRule::LamNotInstalled, lam.spot, place_of(lam)))
+    Some(broken(LinkRule::LamNotInstalled, lam.spot, at_lam(lam)))
 }
 
 // The bit of each service, unless a rule is broken.
@@ -131,7 +131,7 @@ fn link_service(
         return Err(broken(LinkRule::LamNotInstalled, spot, LinkCase::Malformed));
     };
     let Some(bit) = bit_at(plan, lam.crate_no, lam.station) else {
-        return Err(broken(LinkRule::StationWithoutBit, spot, place_of(lam)));
+        return Err(broken(LinkRule::StationWithoutBit, spot, at_lam(lam)));
     };
     if let Some(first) = first_spot(lams, lam, earlier) {
         let case = LinkCase::Served {
@@ -157,8 +157,8 @@ fn broken(rule: LinkRule, spot: Spot, case: LinkCase) -> LinkFault
     LinkFault::Broken { rule, spot, case }
 }
 
-fn place_of(lam: &Lam) -> LinkCase
-    ensures { result ≡ place_of (lam_of lam.now) }
+fn at_lam(lam: &Lam) -> LinkCase
+    ensures { result ≡ at_lam (lam_of lam.now) }
 {
     LinkCase::Place {
         crate_no: lam.crate_no,

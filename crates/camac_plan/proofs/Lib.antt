@@ -1,5 +1,3 @@
-pub mod Places
-pub mod Rules
 pub mod Documents
 mod Firsts
 mod Twice

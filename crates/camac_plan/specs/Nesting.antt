@@ -147,5 +147,5 @@ too_deep bytes = first_deeper 0 (standing Neither (level Key [])) bytes
 abbrev pub level_of : Around → Level
 level_of a = level a.part (reverse a.opened.items)
 
-abbrev pub place_of : Place → Standing
-place_of p = standing p.within (level_of p.around)
+abbrev pub standing_of : Place → Standing
+standing_of p = standing p.within (level_of p.around)

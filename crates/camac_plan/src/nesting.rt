@@ -2,7 +2,7 @@
 
 ghost use Rattle.std.specs.Prelude.{◌≡◌, ◌≤◌, [], reverse};
 ghost use Rattle.arrayvec.specs.ArrayVec.{array_vec_len};
-ghost use Rattle.camac_plan.specs.Nesting.{begun, in_line, in_lines, next_within, part_in, is_in_brackets, begins_with_dot, without_dots, level_of, counted, dotted, bracket_opened, bracket_closed, item_ended, line_ended, place_of, after, too_deep};
+ghost use Rattle.camac_plan.specs.Nesting.{begun, in_line, in_lines, next_within, part_in, is_in_brackets, begins_with_dot, without_dots, level_of, counted, dotted, bracket_opened, bracket_closed, item_ended, line_ended, standing_of, after, too_deep};
 
 use arrayvec::ArrayVec;
 
@@ -86,7 +86,7 @@ pub(crate) fn too_deep(bytes: &[u8]) -> Option<usize>
 impl Place {
     fn follow(&mut self, byte: u8)
         requires { array_vec_len self.old.around.opened ≤ 16 }
-        ensures { place_of self.new ≡ after byte (place_of self.old) }
+        ensures { standing_of self.new ≡ after byte (standing_of self.old) }
     {
         self.within = next_within(self.within, byte);
         match self.within {

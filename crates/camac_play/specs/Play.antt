@@ -41,9 +41,7 @@ HasRead telling left now taken = HasGiven left (left_in (most_answers telling) (
 abbrev pub ReadsNoMore : Telling → Layout → Script → Option Reading → Option (List ℕ) → Ending → Type 0
 ReadsNoMore telling plan script left now (how.End (end.Overrun o)) =
     (taken : List Answer) × HasRead telling left now taken × (ending plan script (record { answers = taken; fault = None }) ≡ how.End (end.Overrun o))
-ReadsNoMore telling plan script left now (how.End end.Ended) = Unit {0}
-ReadsNoMore telling plan script left now (how.End end.Short) = Unit {0}
-ReadsNoMore telling plan script left now (how.Refused f) = Unit {0}
+ReadsNoMore telling plan script left now _ = Unit {0}
 
 -- A read failed in the line after these answers, before the line could be judged. All that they call for was sent, and their events can
 -- be numbered.

@@ -5,7 +5,7 @@ use Rattle.camac_branch.specs.Branch.{Answer}
 use Rattle.camac_branch.specs.Plan.{Layout}
 use Rattle.camac_event.specs.Spelling.{header, record_of}
 use Rattle.camac_event.specs.declared.event.Version.TheVariants.{Two}
-use Rattle.camac_model.specs.Behaviour.{Piece, demanded, cycled, lock_taken, lock_released, event_left, Stop, short, overrun, pieces, stop_of, events, uses}
+use Rattle.camac_model.specs.Behaviour.{Piece, event_left, Stop, short, overrun, pieces, stop_of, events, uses}
 use Rattle.camac_model.specs.Run.{the_run}
 use Rattle.camac_answer.specs.Reading.{Reading}
 use Rattle.camac_answer.specs.declared.answers.TheConstants.{FILE_ANSWERS, LIVE_ANSWERS}
@@ -51,19 +51,13 @@ line_of Requests script p = live_text p
 
 -- the record of an event under its number; other pieces have none
 abbrev pub record_text : ℕ → Piece → List ℕ
-record_text n (demanded p v) = []
-record_text n (cycled at f d r w) = []
-record_text n (lock_taken c w) = []
-record_text n (lock_released c) = []
 record_text n (event_left e) = record_of n (entry_of e)
+record_text n _ = []
 
 -- the number of the next event after a piece
 abbrev pub number_after : ℕ → Piece → ℕ
-number_after n (demanded p v) = n
-number_after n (cycled at f d r w) = n
-number_after n (lock_taken c w) = n
-number_after n (lock_released c) = n
 number_after n (event_left e) = n + 1
+number_after n _ = n
 
 -- the line, in these words, or the record of a piece
 abbrev pub piece_sent : (Piece → List ℕ) → ℕ → Piece → List Sent

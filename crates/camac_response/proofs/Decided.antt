@@ -27,7 +27,7 @@ use Rattle.camac_response.specs.declared.unkept.Why.TheVariants.{NotCleared, Cle
 use Rattle.camac_response.specs.Lams.{plan_clears, clears, lams_of, of_lam}
 use Rattle.camac_response.specs.Laws.{AreSources}
 use Rattle.camac_response.specs.Reach.{could_clear, could_hide, must_clear, clears_lam, IsDecided}
-use Rattle.camac_response.specs.Unkept.{place_of, told, not_cleared, of_other, told_cleared, told_hidden, told_if, told_from, unkept_of, is_kept_to, lines_of, with_line, lesser, least_line, first_made, first_block, first_in}
+use Rattle.camac_response.specs.Unkept.{rank_of, told, not_cleared, of_other, told_cleared, told_hidden, told_if, told_from, unkept_of, is_kept_to, lines_of, with_line, lesser, least_line, first_made, first_block, first_in}
 use Rattle.camac_response.specs.declared.least.Question.TheVariants.{Clears, Hides}
 use Rattle.camac_response.proofs.Lams.{or_false}
 use Rattle.camac_response.proofs.Lowest.{same_at}
@@ -170,7 +170,7 @@ module _ (g : ℕ) where
   told_split bit j why None us e = (λ low. refl, e)
   told_split bit j why (Some line) us e =
       let u : Unkept = record { bit = bit; service = j; line = line; why = why } in
-      let parts = inserted up us (place_of bit line us) u e in
+      let parts = inserted up us (rank_of bit line us) u e in
       (λ low. absurd (true≢false (sym low ∙ parts.0)), parts.1)
 
   cleared_split : (bit j i : ℕ) (lines : List (Option ℕ)) (us : List Unkept) → NoneUp (told_cleared bit j i lines us)

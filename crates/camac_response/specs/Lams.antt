@@ -115,9 +115,7 @@ ClearsNoOther ts lams by_plan g b at f =
 abbrev pub ServesWell : List Source → Lams → Clears → (bit : ℕ) → Book → Piece → Type 0
 ServesWell ts lams by_plan g b (demanded p v) = IsAskedAgain ts lams g b
 ServesWell ts lams by_plan g b (cycled at f d r w) = ClearsNoOther ts lams by_plan g b at f
-ServesWell ts lams by_plan g b (lock_taken c w) = Unit {0}
-ServesWell ts lams by_plan g b (lock_released c) = Unit {0}
-ServesWell ts lams by_plan g b (event_left e) = Unit {0}
+ServesWell ts lams by_plan g b _ = Unit {0}
 
 -- the services keep to this along a run
 abbrev pub services_watch : List Source → Lams → Clears → (bit : ℕ) → Watch Book (Unit {0})
@@ -151,19 +149,12 @@ abbrev pub cleared_by : (is_cleared : Bool) → (raised : ℕ → ℕ) → (ends
 cleared_by is_cleared raised n k = if is_cleared && nat_lt (raised k) n then k + 1 else k
 
 abbrev pub cleared_after : Lams → Clears → Moods → Raises → (begins_at : ℕ) → (ℕ → ℕ) → Piece → ℕ → ℕ
-cleared_after lams by_plan moods raises n cleared (demanded p v) i = cleared i
 cleared_after lams by_plan moods raises n cleared (cycled at f d r w) i = cleared_by (clears_now lams by_plan moods at f (n + (1 + w)) i) (raises i) (n + (1 + w)) (cleared i)
-cleared_after lams by_plan moods raises n cleared (lock_taken c w) i = cleared i
-cleared_after lams by_plan moods raises n cleared (lock_released c) i = cleared i
-cleared_after lams by_plan moods raises n cleared (event_left e) i = cleared i
+cleared_after lams by_plan moods raises n cleared _ i = cleared i
 
 abbrev pub next_after : (cleared next : ℕ → ℕ) → Piece → ℕ → ℕ
-next_after cleared next (demanded p None) i = next i
 next_after cleared next (demanded p (Some j)) i = if nat_eq i j then cleared i + 1 else next i
-next_after cleared next (cycled at f d r w) i = next i
-next_after cleared next (lock_taken c w) i = next i
-next_after cleared next (lock_released c) i = next i
-next_after cleared next (event_left e) i = next i
+next_after cleared next _ i = next i
 
 abbrev pub wires_after : List Source → Lams → Clears → Moods → Raises → Pauses → (bit : ℕ) → Wires → Piece → Wires
 wires_after ts lams by_plan moods raises pauses g x p = let y = clock_at pauses x.clock p in record {
@@ -176,18 +167,12 @@ wires_after ts lams by_plan moods raises pauses g x p = let y = clock_at pauses 
 -- What is said at an operation: by what is known before it, the pause before it and the clock after that, its pattern and its call.
 abbrev pub AtOperation : Pauses → (Wires → (pause : ℕ) → Clock → (pattern : ℕ) → Option ℕ → Type 0) → Wires → Piece → Type 0
 AtOperation pauses says x (demanded p v) = says x (pauses x.clock.operations) (paused (pauses x.clock.operations) x.clock) p v
-AtOperation pauses says x (cycled at f d r w) = Unit {0}
-AtOperation pauses says x (lock_taken c w) = Unit {0}
-AtOperation pauses says x (lock_released c) = Unit {0}
-AtOperation pauses says x (event_left e) = Unit {0}
+AtOperation pauses says x _ = Unit {0}
 
 -- what is said at a cycle: by what is known before it, its command and its wait
 abbrev pub AtCycle : (Wires → Address → (function wait : ℕ) → Type 0) → Wires → Piece → Type 0
-AtCycle says x (demanded p v) = Unit {0}
 AtCycle says x (cycled at f d r w) = says x at f w
-AtCycle says x (lock_taken c w) = Unit {0}
-AtCycle says x (lock_released c) = Unit {0}
-AtCycle says x (event_left e) = Unit {0}
+AtCycle says x _ = Unit {0}
 
 -- E is at most T: by its rate a service has ended when its module calls again
 pub record EndsByRate (ts : List Source) (t : Source) : Type 0 where

@@ -6,7 +6,7 @@ use Rattle.camac_branch.specs.Plan.{Layout, IsPlan}
 use Rattle.camac_model.specs.Meaning.{context}
 use Rattle.camac_model.specs.Run.{service_bit, the_run}
 use Rattle.camac_model.specs.Fine.{Bounds}
-use Rattle.camac_model.specs.Behaviour.{Piece, demanded, cycled, lock_taken, lock_released, event_left}
+use Rattle.camac_model.specs.Behaviour.{Piece, demanded}
 use Rattle.camac_model.specs.Moments.{Watch, Holds, Any, AnyStop}
 use Rattle.camac_model.specs.Headline.{RunsSafely, no_count, nothing}
 use Rattle.camac_response_times.specs.declared.source.Source.{Source}
@@ -44,10 +44,7 @@ pub record IsLowest (ts : List Source) (pattern number : ℕ) : Type 0 where
 abbrev pub CallsLowest : List Source → Unit {0} → Piece → Type 0
 CallsLowest ts u (demanded p None) = (i : ℕ) (t : Source) → slice_get ts i ≡ Some t → IsSet p t.bit → ⊥
 CallsLowest ts u (demanded p (Some j)) = IsLowest ts p j
-CallsLowest ts u (cycled at f d r w) = Unit {0}
-CallsLowest ts u (lock_taken c w) = Unit {0}
-CallsLowest ts u (lock_released c) = Unit {0}
-CallsLowest ts u (event_left e) = Unit {0}
+CallsLowest ts u _ = Unit {0}
 
 abbrev pub lowest_watch : List Source → Watch (Unit {0}) (Unit {0})
 lowest_watch ts = record { step = no_count; at_piece = CallsLowest ts; at_stop = AnyStop; at_end = Any }

@@ -44,34 +44,22 @@ paused d y = record y { time = y.time + d; stretch = stretch_at d y.stretch }
 -- at a piece: after the pause before it, if it is an operation
 abbrev pub clock_at : Pauses → Clock → Piece → Clock
 clock_at pauses y (demanded p v) = paused (pauses y.operations) y
-clock_at pauses y (cycled at f d r w) = y
-clock_at pauses y (lock_taken c w) = y
-clock_at pauses y (lock_released c) = y
-clock_at pauses y (event_left e) = y
+clock_at pauses y _ = y
 
 -- the time after a piece that begins at this one
 abbrev pub time_after : ℕ → Piece → ℕ
-time_after n (demanded p v) = n
 time_after n (cycled at f d r w) = n + (1 + w)
 time_after n (lock_taken c w) = n + w
-time_after n (lock_released c) = n
-time_after n (event_left e) = n
+time_after n _ = n
 
 -- the operations, and the calls of each service
 abbrev pub operations_after : ℕ → Piece → ℕ
 operations_after n (demanded p v) = n + 1
-operations_after n (cycled at f d r w) = n
-operations_after n (lock_taken c w) = n
-operations_after n (lock_released c) = n
-operations_after n (event_left e) = n
+operations_after n _ = n
 
 abbrev pub calls_after : (ℕ → ℕ) → Piece → ℕ → ℕ
-calls_after calls (demanded p None) = calls
 calls_after calls (demanded p (Some i)) = one_more i calls
-calls_after calls (cycled at f d r w) = calls
-calls_after calls (lock_taken c w) = calls
-calls_after calls (lock_released c) = calls
-calls_after calls (event_left e) = calls
+calls_after calls _ = calls
 
 -- a piece that begins at this clock
 abbrev pub ticked : List Source → (bit : ℕ) → Clock → Piece → Clock

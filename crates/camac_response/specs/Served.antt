@@ -6,7 +6,7 @@ use Rattle.camac_lang.specs.Tree.{Service, Script}
 use Rattle.camac_branch.specs.Address.{Address}
 use Rattle.camac_branch.specs.Branch.{Branch, Answer}
 use Rattle.camac_branch.specs.Plan.{Layout, IsPlan}
-use Rattle.camac_model.specs.Behaviour.{Piece, demanded, cycled, lock_taken, lock_released, event_left}
+use Rattle.camac_model.specs.Behaviour.{Piece, cycled}
 use Rattle.camac_model.specs.Fine.{Bounds}
 use Rattle.camac_model.specs.Meaning.{context}
 use Rattle.camac_model.specs.Headline.{no_count, nothing}
@@ -43,11 +43,8 @@ pub record IsHarmless (ts : List Source) (lams : Lams) (by_plan : Clears) (g i :
   pub hides_none : (j : ℕ) (t : Source) → slice_get ts j ≡ Some t → is_up_to g t ≡ true → of_lam (λ lam. hides lam at f) (lams j) ≡ false
 
 abbrev pub Harmless : List Source → Lams → Clears → (bit : ℕ) → ℕ → Unit {0} → Piece → Type 0
-Harmless ts lams by_plan g i u (demanded p v) = Unit {0}
 Harmless ts lams by_plan g i u (cycled at f d r w) = IsHarmless ts lams by_plan g i at f
-Harmless ts lams by_plan g i u (lock_taken c w) = Unit {0}
-Harmless ts lams by_plan g i u (lock_released c) = Unit {0}
-Harmless ts lams by_plan g i u (event_left e) = Unit {0}
+Harmless ts lams by_plan g i u _ = Unit {0}
 
 -- each cycle of a service, whatever the branch is like and answers
 abbrev pub IsHarmlessService : Layout → Script → List Source → Clears → (bit : ℕ) → ℕ → Service → Type 0

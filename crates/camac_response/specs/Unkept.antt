@@ -71,12 +71,12 @@ lines_of plan script bodies q lam = told_over (first_in (asks plan q lam)) [] (s
 abbrev pub comes_after : (bit line : ℕ) → Unkept → Bool
 comes_after bit line v = nat_lt bit v.bit || (nat_eq v.bit bit && nat_lt line v.line)
 
-abbrev pub place_of : (bit line : ℕ) → List Unkept → ℕ
-place_of bit line [] = 0
-place_of bit line (v ∷ us) = if comes_after bit line v then 0 else place_of bit line us + 1
+abbrev pub rank_of : (bit line : ℕ) → List Unkept → ℕ
+rank_of bit line [] = 0
+rank_of bit line (v ∷ us) = if comes_after bit line v then 0 else rank_of bit line us + 1
 
 abbrev pub with_unkept : Unkept → List Unkept → List Unkept
-with_unkept u us = insert us (place_of u.bit u.line us) u
+with_unkept u us = insert us (rank_of u.bit u.line us) u
 
 -- one on a line, if there is one
 abbrev pub told : (bit service : ℕ) → Why → (line : Option ℕ) → List Unkept → List Unkept

@@ -112,13 +112,13 @@ fn line_of_bit(
 ) -> Line
     ensures { result ≡ bit_text checked.now.script within.now unkept.now twice.now responses.now bit }
 {
-    match place_of(responses.sources(), bit) {
+    match source_of(responses.sources(), bit) {
         Some(number) => line_of(checked, responses, unkept, twice, within, number),
         None => Line::new(),
     }
 }
 
-fn place_of(sources: &[Source], bit: u32) -> Option<usize>
+fn source_of(sources: &[Source], bit: u32) -> Option<usize>
     ensures { result ≡ position (λ t. nat_eq t.bit bit) sources.now }
 {
     sources.iter().position(|source| source.bit.get() == bit)

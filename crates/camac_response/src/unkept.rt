@@ -3,7 +3,7 @@
 ghost use Rattle.std.specs.Prelude.{◌≡◌, ◌<◌, ◌≤◌, ◌+◌, ◌^◌, IfOk, OnOk, length, slice_get};
 ghost use Rattle.camac_lang.specs.View.{service_of};
 ghost use Rattle.camac_response.specs.Lams.{lams_of};
-ghost use Rattle.camac_response.specs.Unkept.{comes_after, is_kept_to, not_cleared, place_of, told, told_cleared, told_from, told_hidden, told_if, unkept_of};
+ghost use Rattle.camac_response.specs.Unkept.{comes_after, is_kept_to, not_cleared, rank_of, told, told_cleared, told_from, told_hidden, told_if, unkept_of};
 
 use crate::clears::{clears_lam, lam_at};
 use crate::least::{Question, lines_of};
@@ -162,7 +162,7 @@ fn tell(
     let Some(line) = line else {
         return Ok(());
     };
-    let place = place_of(found, bit.get(), line);
+    let place = rank_of(found, bit.get(), line);
     found.insert(
         place,
         Unkept {
@@ -176,8 +176,8 @@ fn tell(
 }
 
 // Before the first that comes after one of this bit and line.
-fn place_of(found: &[Unkept], bit: u32, line: u32) -> usize
-    ensures place { result ≡ place_of bit line found.now }
+fn rank_of(found: &[Unkept], bit: u32, line: u32) -> usize
+    ensures place { result ≡ rank_of bit line found.now }
     ensures inside { result ≤ length found.now }
 {
     let [first, rest @ ..] = found else {
@@ -186,7 +186,7 @@ fn place_of(found: &[Unkept], bit: u32, line: u32) -> usize
     if comes_after(bit, line, first) {
         0
     } else {
-        place_of(rest, bit, line) + 1
+        rank_of(rest, bit, line) + 1
     }
 }
 

@@ -11,7 +11,7 @@ use Rattle.camac_branch.specs.Branch.{Branch, Answer}
 use Rattle.camac_model.specs.State.{State, fresh}
 use Rattle.camac_model.specs.Behaviour.{Behaviour, does, ends, stops}
 use Rattle.camac_model.specs.Meaning.{entered, context}
-use Rattle.camac_model.specs.Fine.{Bounds, IsWithin, IsFine, AreInRanges, annotated}
+use Rattle.camac_model.specs.Fine.{Bounds, IsWithinBounds, IsFine, AreInRanges, annotated}
 use Rattle.camac_rules.specs.Accept.{accept}
 use Rattle.camac_rules.specs.Known.{Known}
 use Rattle.camac_rules.specs.Laws.{AcceptedAreFine, AcceptedProceduresAreFine, AcceptedAreWithin}
@@ -61,7 +61,7 @@ in_range_small (v ∷ vs) (p ∷ ps) h n =
 abbrev pub at_call : Branch → Bool → Bool → List Answer → State
 at_call b q x answers = record (fresh b answers) { branch = b; q = q; x = x }
 
-called_within : (k : Bounds) (vs : List ℕ) (b : Branch) (q x : Bool) (answers : List Answer) (t : State) → Paid k (entered vs (at_call b q x answers)) t → IsWithin k t
+called_within : (k : Bounds) (vs : List ℕ) (b : Branch) (q x : Bool) (answers : List Answer) (t : State) → Paid k (entered vs (at_call b q x answers)) t → IsWithinBounds k t
 called_within k vs b q x answers t p = record {
   cycles = omega (arith, p.cycles);
   words = omega (arith, p.words);

@@ -29,9 +29,6 @@ pub mod Orders
 pub mod ParameterNumbers
 pub mod Accepted
 mod Rows
-mod Arms
 mod TransferRows
-mod LoopRows
 mod EachRows
-mod EachScriptRows
 mod ProcedureRows

@@ -49,13 +49,13 @@ pub record Serves (c : Setting) : Type 0 where
   pub each : (j : ℕ) (q : Procedure) → slice_get c.procedures j ≡ Some q → HasRoutine c j q
 
 -- values of several expressions, each in its range
-abbrev AllFit : List ℕ → List Interval → Type 0
+abbrev pub AllFit : List ℕ → List Interval → Type 0
 AllFit [] [] = Unit {0}
 AllFit [] (r ∷ rs) = ⊥
 AllFit (v ∷ vs) [] = ⊥
 AllFit (v ∷ vs) (r ∷ rs) = Fits r v × AllFit vs rs
 
-abbrev GiveAll : Option (List ℕ) → List Interval → Type 0
+abbrev pub GiveAll : Option (List ℕ) → List Interval → Type 0
 GiveAll None rs = ⊥
 GiveAll (Some vs) rs = AllFit vs rs
 
@@ -70,7 +70,7 @@ ranges_hold spot (e ∷ es) rs env h =
     then_allowed (range_holds spot e rs env h) (λ r g.
     then_allowed (ranges_hold spot es rs env h) (λ others gs. allowed (give_both (value e env) (values es env) r others g gs)))
 
-ranges_each : (spot : Spot) (es : List Expression) (rs : List Interval) → Allows (ranges_of spot es rs) (λ found. (env : Variables) → VariablesInside rs env → GiveAll (values es env) found)
+pub ranges_each : (spot : Spot) (es : List Expression) (rs : List Interval) → Allows (ranges_of spot es rs) (λ found. (env : Variables) → VariablesInside rs env → GiveAll (values es env) found)
 ranges_each spot es rs = for_each (VariablesInside rs) (λ env found. GiveAll (values es env) found) (λ env h. ranges_hold spot es rs env h)
 
 record HasArguments (o : Option (List ℕ)) (rs : List Interval) : Type 0 where
@@ -82,7 +82,7 @@ arguments_of : (o : Option (List ℕ)) (rs : List Interval) → GiveAll o rs →
 arguments_of None rs g = absurd g
 arguments_of (Some vs) rs g = record { numbers = vs; is = refl; fit = g }
 
-in_ranges : (vs : List ℕ) (rs : List Interval) (ps : List Parameter) → AllFit vs rs → arguments_fit rs ps ≡ true → AreInRanges vs ps
+pub in_ranges : (vs : List ℕ) (rs : List Interval) (ps : List Parameter) → AllFit vs rs → arguments_fit rs ps ≡ true → AreInRanges vs ps
 in_ranges [] [] [] f e = tt
 in_ranges [] [] (p ∷ ps) f e = absurd (false≢true e)
 in_ranges [] (r ∷ rs) ps f e = absurd f
@@ -97,7 +97,7 @@ in_ranges (v ∷ vs) (r ∷ rs) (p ∷ ps) f e =
     let to = f.0.within.high in
     (omega arith, omega arith, in_ranges vs rs ps f.1 q.1)
 
-are_small : (vs : List ℕ) (rs : List Interval) → AllFit vs rs → AreSmall vs
+pub are_small : (vs : List ℕ) (rs : List Interval) → AllFit vs rs → AreSmall vs
 are_small [] [] f = tt
 are_small [] (r ∷ rs) f = absurd f
 are_small (v ∷ vs) [] f = absurd f

@@ -12,7 +12,7 @@ use Rattle.camac_model.specs.State.{State, fresh}
 use Rattle.camac_model.specs.Behaviour.{Behaviour, does, ends, stops, Action}
 use Rattle.camac_model.specs.Headline.{AreWithinHeadings}
 use Rattle.camac_model.specs.Meaning.{context, routines_with, block_meaning}
-use Rattle.camac_model.specs.Fine.{Bounds, IsWithin as IsWithinBounds, IsFine, IsFineService, AreFine}
+use Rattle.camac_model.specs.Fine.{Bounds, IsWithinBounds, IsFine, IsFineService, AreFine}
 use Rattle.camac_rules.specs.Known.{Known}
 use Rattle.camac_rules.specs.declared.case.Body.{Body}
 use Rattle.camac_rules.specs.declared.case.Body.TheVariants as body

@@ -1,7 +1,7 @@
 -- What comes next, whatever is answered.
 use Rattle.std.proofs.Common.{append_assoc, ◌≡◌, ◌∙◌, ℕ, zero, suc, ◌+◌, ◌-◌, ◌<◌, ◌≤◌, List, [], ◌∷◌, ◌++◌, length, length-set, drop, take, map, get_or, set, get_or-set_same, get_or-set_other, eq-eqb, Bool, true, false, Option, Some, None, inl, inr, refl, sym, ap, subst, arith}
 use Rattle.std.proofs.lemmas.Bool.{false≢true, cases_eq, cases_lt, ne_eqb}
-use Rattle.std.proofs.lemmas.List.{drop-map, get_or_past, take-map}
+use Rattle.std.proofs.lemmas.List.{get_or_past}
 use Rattle.std.proofs.Math.Path.{fun_ext}
 use Rattle.std.specs.Prelude.{IsSome, slice_get}
 use Rattle.camac_branch.specs.Branch.{Answer, Reply, reply_to}
@@ -9,34 +9,26 @@ use Rattle.camac_branch.specs.Crates.{Crates, is_permitted}
 use Rattle.camac_branch.specs.Plan.{Layout, crate_waits}
 use Rattle.camac_branch.specs.declared.answer.Command.{Command}
 use Rattle.camac_branch.specs.declared.answer.Overrun.{Overrun}
-use Rattle.camac_lang.specs.Tree.{Block, done, next, Statement}
-use Rattle.camac_branch.specs.Address.{Address}
-use Rattle.camac_model.specs.Behaviour.{Behaviour, does, ends, stops, overrun, wrong, Piece, cycled, lock_released, event_left, Action, then_do}
+use Rattle.camac_model.specs.Behaviour.{Behaviour, does, ends, stops, overrun, Piece, cycled, lock_released, event_left, Action, then_do}
 use Rattle.camac_model.specs.Cycle.{outcome, follow, after_cycle, cycle, kept, make_cycle}
-use Rattle.camac_model.specs.Fine.{Bounds, IsFine, most_turns}
-use Rattle.camac_model.specs.Meaning.{Context, effect, block_meaning, for_state, for_turns}
+use Rattle.camac_model.specs.Fine.{Bounds, IsFine}
+use Rattle.camac_model.specs.Meaning.{Context}
 use Rattle.camac_model.specs.Run.{event_of}
-use Rattle.camac_model.specs.State.{State, Registers, Variables, set_at, stepped, with_variable}
+use Rattle.camac_model.specs.State.{State, Variables, set_at, with_variable}
 use Rattle.camac_model.proofs.Runs.{then_assoc}
-use Rattle.camac_machine.specs.MachineState.{Left, bit_at, bounds_of, context_in, left_in, open_in, pending_of, registers_here, variables_here, stands, state_of, piece_of, IsFineHere}
-use Rattle.camac_machine.specs.Rest.{address_of, Operation, makes, reads, locks, transfers, pauses, awaited, owed, rest_in, says, served, onward, Owner, for_loop, Open, left_of}
-use Rattle.camac_machine.specs.Store.{held_at, size, variables_in}
-use Rattle.camac_machine.specs.declared.scope.Places.{Places}
+use Rattle.camac_machine.specs.MachineState.{Left, bit_at, bounds_of, context_in, left_in, pending_of, registers_here, variables_here, stands, state_of, piece_of, IsFineHere}
+use Rattle.camac_machine.specs.Rest.{address_of, Operation, makes, reads, locks, transfers, pauses, awaited, says, served, onward}
 use Rattle.camac_machine.specs.declared.item.Item.{Item}
-use Rattle.camac_machine.specs.declared.machine.Frame.{Frame}
 use Rattle.camac_machine.specs.declared.machine.Machine.{Machine}
 use Rattle.camac_machine.specs.declared.machine.Pending.{Pending}
 use Rattle.camac_machine.proofs.Fine.{fine_follow, some_is}
-use Rattle.camac_machine.proofs.Frames.{left_pushed}
 use Rattle.camac_machine.proofs.Takes.{cycle_goes, cycle_halts}
 use Rattle.camac_run.specs.Ahead.{Does, past_first, AreAhead, IsAhead, BeginningsAreAhead, AheadIsMade, operations, with_operation}
 use Rattle.camac_run.specs.Holds.{told_of, event_pieces}
 use Rattle.camac_run.specs.Operation.{Begins, Waits, Wants, crate_of, operation_of}
 use Rattle.camac_run.specs.Runner.{RunnerState, rest, with_event, last_words_in, GoesOn}
 use Rattle.camac_run.specs.Sound.{runner_state}
-use Rattle.camac_run.specs.Sure.{Knows, KnowsVariables, KnowsRegisters, IsKnown, cycle_of, After, on, MakesCycle, NeedsNone, IsSure, LeadsTo, BlockLeadsTo, IsStep}
-use Rattle.camac_run.specs.declared.ahead.Sure.{Sure}
-use Rattle.camac_run.specs.declared.ahead.Sure.TheVariants as sure
+use Rattle.camac_run.specs.Sure.{Knows, cycle_of, After, on, LeadsTo}
 use Rattle.camac_run.specs.declared.progress.Wanted.{Wanted}
 use Rattle.camac_run.specs.declared.progress.Wanted.TheVariants as wanted
 use Rattle.camac_run.proofs.Operation.{some_wait}
@@ -156,7 +148,7 @@ module _ {A : Type 0} (plan : Layout) (bounds : Bounds) (k : Command) (keep : Re
     cycle_ahead = (short_waits k.c (crate_waits plan k.c) (s.branch k.c).locked _ (on [] s) go planned, λ a. by_wait a (is_permitted plan s.branch k.c a.wait) refl)
 
 -- the same of a single cycle that is wanted
-operation_ahead : {A : Type 0} (c : Context) (bounds : Bounds) (w : Operation) (k : Command) (s : State) (go : State → Behaviour A) (left : Action) (os : List Wanted) → cycle_of w ≡ Some k
+pub operation_ahead : {A : Type 0} (c : Context) (bounds : Bounds) (w : Operation) (k : Command) (s : State) (go : State → Behaviour A) (left : Action) (os : List Wanted) → cycle_of w ≡ Some k
     → ((answers : List Answer) → IsFine c.plan bounds (then_do (awaited c w (on answers s)) left))
     → ((t : State) → t.registers ≡ s.registers → After w s.variables t.variables → ((answers : List Answer) → IsFine c.plan bounds (left (on answers t))) → AreAhead os (λ answers. go (on answers t)))
     → AreAhead (wanted.Cycle k ∷ os) (λ answers. then_do (awaited c w (on answers s)) go)
@@ -195,122 +187,14 @@ knows_set {A} {B} seen known all x o b k h i v e =
     none_some : (v : A) → ◌≡◌ {A = Option A} None (Some v) → ⊥
     none_some v e = absurd (cc)
 
--- values that are all known
-all_known : (values : List ℕ) (i v : ℕ) → get_or (map Some values) i None ≡ Some v → get_or values i 0 ≡ v
-all_known [] i v e = absurd (cc)
-all_known (w ∷ values) zero v e = cc
-all_known (w ∷ values) (suc i) v e = all_known values i v e
-
-pub knows_held : (p : Places) (values : List ℕ) → KnowsVariables (held_at p (map Some values)) (variables_in (held_at p values))
-knows_held p values i v e =
-    let same : held_at p (map Some values) ≡ map Some (held_at p values) = ap (λ (l : List (Option ℕ)). take (size p) l) (drop-map Some p.start values) ∙ take-map Some (size p) (drop p.start values) in
-    all_known (held_at p values) i v (ap (λ (l : List (Option ℕ)). get_or l i None) (sym same) ∙ e)
-
--- ---- the steps of a block
-
-module _ (c : Context) (st : Statement) (more : Block) (owner : Owner) (variables : List (Option ℕ)) (registers : List (Option Address)) where
-  abbrev here : Open
-  here = record { block = next st more; owner = owner }
-
-  abbrev later : Open
-  later = record { block = more; owner = owner }
-
-  -- what is left of the block after its first statement
-  abbrev and_then : {B : Type 0} → (State → Behaviour B) → State → Behaviour B
-  and_then f t = then_do (left_of c later t) f
-
-  -- as the statement comes out, so the block goes on
-  goes_so : (around : Action) (s : State) (b : Behaviour State) → effect c most_turns st (stepped s) ≡ b → then_do (left_of c here s) around ≡ then_do b (and_then around)
-  goes_so around s b e =
-      ap (λ (x : Behaviour State). then_do (then_do (then_do x (block_meaning c most_turns more)) (owed c owner)) around) e
-      ∙ ap (λ (x : Behaviour State). then_do x around) (then_assoc b (block_meaning c most_turns more) (owed c owner))
-      ∙ then_assoc b (λ t. then_do (block_meaning c most_turns more t) (owed c owner)) around
-
-  module _ (variables' : List (Option ℕ)) (registers' : List (Option Address)) where
-    makes_step : (k : Command) → registers' ≡ registers → MakesCycle c variables registers st k variables' → IsStep c here variables registers (sure.Makes k) later variables' registers'
-    makes_step k same m os ahead bounds around s known fine leave =
-        let w : Operation = m.operation in
-        let first : (answers : List Answer) → then_do (left_of c here (on answers s)) around ≡ then_do (awaited c w (on answers (stepped s))) (and_then around) =
-        λ answers. goes_so around (on answers s) _ (m.begins (on answers (stepped s)) (record { variables_are = known.variables_are; registers_are = known.registers_are })) in
-        subst (λ (r : List Answer → Behaviour (Unit {0})). AreAhead (wanted.Cycle k ∷ os) r)
-        (sym (fun_ext (λ answers. ap (λ (x : Behaviour State). then_do x leave) (first answers) ∙ then_assoc (awaited c w (on answers (stepped s))) (and_then around) leave)))
-        (operation_ahead c bounds w k (stepped s) (λ t. then_do (and_then around t) leave) (and_then around) os m.is_cycle
-        (λ answers. subst (λ (x : Behaviour State). IsFine c.plan bounds x) (first answers) (fine answers))
-        (λ t e v f.
-        ahead bounds around t
-        (record {
-          variables_are = m.known s.variables t.variables known.variables_are v;
-          registers_are = subst (λ (rs : List (Option Address)). KnowsRegisters rs t.registers) (sym same) (subst (λ (g : Registers). KnowsRegisters registers g) (sym e) known.registers_are);
-        }) f leave))
-
-    none_step : NeedsNone c variables registers st variables' registers' → IsStep c here variables registers sure.NeedsNone later variables' registers'
-    none_step n os ahead bounds around s known fine leave =
-        elim (n (stepped s) (record { variables_are = known.variables_are; registers_are = known.registers_are })) [
-          | inl is_wrong ↦
-              let no : IsFine c.plan bounds (stops wrong (on [] (stepped s))) = subst (λ (x : Behaviour State). IsFine c.plan bounds x) (goes_so around (on [] s) _ (is_wrong [])) (fine []) in
-              absurd no.0
-          | inr passes ↦
-              let t : State = passes.0 in
-              let first : (answers : List Answer) → then_do (left_of c here (on answers s)) around ≡ and_then around (on answers t) = λ answers. goes_so around (on answers s) _ (passes.2 answers) in
-              subst (λ (r : List Answer → Behaviour (Unit {0})). AreAhead os r)
-              (sym (fun_ext (λ answers. ap (λ (x : Behaviour State). then_do x leave) (first answers))))
-              (ahead bounds around t passes.1 (λ answers. subst (λ (x : Behaviour State). IsFine c.plan bounds x) (first answers) (fine answers)) leave)
-        ]
-
-    pub statement_step : (its : Sure) → IsSure c variables registers st its variables' registers' → IsStep c here variables registers its later variables' registers'
-    statement_step (sure.Makes k) i = makes_step k i.0 i.1
-    statement_step sure.NeedsNone i = none_step i
-    statement_step sure.Unknown i = tt
-
--- the next turn of a `for`
-module _ (c : Context) (x v w : ℕ) (body : Block) (variables : List (Option ℕ)) (registers : List (Option Address)) (bounds : Bounds) (around : Action) (s : State) (leave : State → Behaviour (Unit {0})) (os : List Wanted) where
-  abbrev further : (n j : ℕ) → Action
-  further n j t = for_turns j n x (v + 1) w (block_meaning c most_turns body) t
-
-  abbrev turned : ℕ → Open
-  turned n = record { block = body; owner = for_loop x (v + 1) w n body }
-
-  turn_ahead : (n j : ℕ) → v < w → w - v ≡ j → IsKnown variables registers s → ((answers : List Answer) → IsFine c.plan bounds (then_do (further n j (on answers s)) around)) → BlockLeadsTo c (turned (n - 1)) (set variables x (Some (v + 1))) registers os
-      → AreAhead os (λ answers. then_do (then_do (further n j (on answers s)) around) leave)
-  unfolding owed
-  turn_ahead n zero less e known fine ahead = absurd (omega (arith, e, less))
-  turn_ahead zero (suc j) less e known fine ahead = absurd ((fine []).0)
-  turn_ahead (suc n) (suc j) less e known fine ahead =
-      let same : j ≡ w - (v + 1) = omega (arith, e) in
-      let fewer : suc n - 1 ≡ n = omega arith in
-      let ahead' : BlockLeadsTo c (turned n) (set variables x (Some (v + 1))) registers os = subst (λ i. BlockLeadsTo c (turned i) (set variables x (Some (v + 1))) registers os) fewer ahead in
-      let t : State = for_state x (v + 1) s in
-      let first : (answers : List Answer) → then_do (further (suc n) (suc j) (on answers s)) around ≡ then_do (left_of c (turned n) (on answers t)) around =
-      λ answers. ap (λ i. then_do (then_do (block_meaning c most_turns body (on answers t)) (for_turns i n x (v + 1 + 1) w (block_meaning c most_turns body))) around) same in
-      subst (λ (r : List Answer → Behaviour (Unit {0})). AreAhead os r) (sym (fun_ext (λ answers. ap (λ (b : Behaviour State). then_do b leave) (first answers))))
-      (ahead' bounds around t
-      (record { variables_are = knows_set (λ i. i) variables s.variables x (Some (v + 1)) (v + 1) known.variables_are (λ i e'. cc); registers_are = known.registers_are })
-      (λ answers. subst (λ (b : Behaviour State). IsFine c.plan bounds b) (first answers) (fine answers)) leave)
-
-pub turn_step : (c : Context) (x v w n : ℕ) (body : Block) (variables : List (Option ℕ)) (registers : List (Option Address)) → v < w
-    → IsStep c (record { block = done; owner = for_loop x v w n body }) variables registers sure.NeedsNone (record { block = body; owner = for_loop x (v + 1) w (n - 1) body }) (set variables x (Some (v + 1))) registers
-unfolding owed
-turn_step c x v w n body variables registers less os ahead bounds around s known fine leave =
-    turn_ahead c x v w body variables registers bounds around s leave os n (w - v) less refl known fine ahead
-
 -- ---- what a runner has ahead
 
 module _ {V D C : ℕ} (h : Machine V D C) where
   abbrev ctx : Context
   ctx = context_in h.checked.now
 
-  -- what is ahead of the innermost block is ahead of what is left
-  pub innermost_leads : (before : List Frame) (last : Frame) (variables : List (Option ℕ)) (registers : List (Option Address)) (os : List Wanted) → h.frames.items ≡ before ++ last ∷ [] → BlockLeadsTo ctx (open_in h last) variables registers os
-      → (t : State) → IsKnown variables registers t → LeadsTo ctx (bounds_of h) (left_in h) t os
-  innermost_leads before last variables registers os is ahead t known fine leave =
-      let around : Action = rest_in ctx (map (open_in h) before) in
-      let whole : (u : State) → left_in h u ≡ then_do (left_of ctx (open_in h last) u) around =
-      λ u. ap (λ (fs : List Frame). rest_in ctx (map (open_in h) fs) u) is ∙ left_pushed ctx (open_in h) before last u in
-      subst (λ (r : List Answer → Behaviour (Unit {0})). AreAhead os r) (sym (fun_ext (λ answers. ap (λ (b : Behaviour State). then_do b leave) (whole (on answers t)))))
-      (ahead (bounds_of h) around t known (λ answers. subst (λ (b : Behaviour State). IsFineHere h b) (whole (on answers t)) (fine answers)) leave)
-
   pub following_ahead : (w : Pending) (k : Command) (os : List Wanted) (fed n : ℕ) (has : Bool) (o : Option Overrun) (d : Crates) (limit : ℕ) → cycle_of (pending_of w) ≡ Some k → ((answers : List Answer) → IsFineHere h (stands (Some w) h answers))
-      → ((t : State) → t.registers ≡ registers_here h → After (pending_of w) (variables_here h) t.variables → LeadsTo ctx (bounds_of h) (left_in h) t os)
+      → ((t : State) → t.registers ≡ registers_here h → After (pending_of w) (variables_here h) t.variables → LeadsTo h.checked.now.plan (bounds_of h) (left_in h) t os)
       → AreAhead (wanted.Cycle k ∷ os) (rest (runner_state h (Some w) fed n has o d limit))
   unfolding served
   following_ahead w k os fed n has o d limit e fine ahead =

@@ -14,5 +14,7 @@ pub mod Early
 pub mod Abandoned
 pub mod Coming
 pub mod Steps
+pub mod Making
+pub mod Around
 pub mod Undone
 pub mod Transfers

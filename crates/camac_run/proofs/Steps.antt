@@ -1,17 +1,16 @@
 -- What statements surely do.
-use Rattle.std.proofs.Common.{add-one, append-nil, append_assoc, ◌-◌, ◌≡◌, ◌∙◌, ℕ, suc, zero, ◌+◌, ◌<◌, ◌≤◌, List, [], ◌∷◌, ◌++◌, length, drop, take, map, set, get_or, true, Option, Some, None, inl, inr, refl, sym, ap, subst, arith}
+use Rattle.std.proofs.Common.{◌≡◌, ◌∙◌, ℕ, zero, suc, ◌+◌, ◌-◌, ◌<◌, ◌≤◌, List, [], ◌∷◌, length, length-set, drop, get_or, get_or-set_same, get_or-set_other, set, true, Option, Some, None, inl, inr, refl, sym, ap, subst, arith}
 use Rattle.std.specs.Prelude.{is_some, IfSome, slice_get, slice_index_or}
-use Rattle.std.proofs.lemmas.Bool.{false≢true}
-use Rattle.std.specs.Borrow.{Bor}
+use Rattle.std.proofs.lemmas.Bool.{false≢true, cases_eq, cases_lt}
+use Rattle.std.proofs.lemmas.List.{get_or_past}
+use Rattle.std.proofs.lemmas.Option.{get_or_from_slice_get, slice_get-get_or}
 use Rattle.camac_branch.specs.Address.{Address, address}
 use Rattle.camac_branch.specs.Allowed.{width}
 use Rattle.camac_branch.specs.Branch.{Answer}
 use Rattle.camac_branch.specs.declared.answer.Command.{Command}
 use Rattle.camac_esone.specs.Calls.{command_at, crate_address, crate_function, lam_function}
 use Rattle.camac_func.specs.declared.data.DataMove.TheVariants as moved
-use Rattle.camac_lang.specs.Tree.{done, Expression, Statement, Move, no_data, into, from, assign, set_register, single, put, crate_call, lam_call}
-use Rattle.camac_lang.specs.View.{statement_of, statements_of}
-use Rattle.camac_lang.specs.declared.tree.Stmt.{Stmt}
+use Rattle.camac_lang.specs.Tree.{Expression, Statement, Move, no_data, into, from, assign, set_register, single, put, crate_call, lam_call}
 use Rattle.camac_lang.specs.declared.word.CrateCall.{CrateCall}
 use Rattle.camac_lang.specs.declared.word.LamCall.{LamCall}
 use Rattle.camac_lang.specs.declared.word.WordSize.{WordSize}
@@ -20,22 +19,16 @@ use Rattle.camac_model.specs.Behaviour.{Action, ends, given, unless_wrong}
 use Rattle.camac_model.specs.Cycle.{cycle, sized}
 use Rattle.camac_model.specs.Fine.{most_turns}
 use Rattle.camac_model.specs.Meaning.{Context, act, effect, fits_size}
-use Rattle.camac_model.specs.State.{State, Variables, Registers, set_at, with_variable, with_register, with_word}
+use Rattle.camac_model.specs.State.{State, Variables, set_at, with_variable, with_register, with_word}
 use Rattle.camac_model.specs.Value.{value}
-use Rattle.camac_machine.specs.MachineState.{open_of, owner_of}
-use Rattle.camac_machine.specs.Rest.{makes, reads, awaited, for_loop, Open}
-use Rattle.camac_machine.specs.declared.machine.Frame.{Frame}
-use Rattle.camac_machine.specs.declared.machine.Owner as rust_owner
-use Rattle.camac_machine.specs.declared.machine.Owner.TheVariants as rust
-use Rattle.camac_machine.specs.Store.{held_at, registers_in, variables_in}
-use Rattle.camac_machine.specs.declared.scope.Places.{Places}
-use Rattle.camac_machine.proofs.Lists.{split_last}
-use Rattle.camac_run.specs.Sure.{KnowsVariables, KnowsRegisters, IsKnown, HasValue, on, MakesCycle, PassesFrom, NeedsNone, IsSure, sure_of, IsStep, Extends, Adds}
+use Rattle.camac_machine.specs.Rest.{makes, reads, awaited}
+use Rattle.camac_run.specs.Sure.{KnowsVariables, IsKnown, HasValue, on, MakesCycle, PassesFrom, NeedsNone, IsSure, sure_of}
 use Rattle.camac_run.specs.declared.ahead.Sure.{Sure}
 use Rattle.camac_run.specs.declared.ahead.Sure.TheVariants as sure
-use Rattle.camac_run.specs.declared.progress.Wanted.{Wanted}
-use Rattle.camac_run.specs.declared.progress.Wanted.TheVariants as wanted
-use Rattle.camac_run.proofs.Coming.{knows_held, knows_set, statement_step, turn_step}
+use Rattle.camac_machine.specs.Store.{held_at}
+use Rattle.camac_machine.specs.declared.scope.Places.{Places}
+use Rattle.camac_machine.proofs.Procedures.{taken_at}
+use Rattle.camac_run.proofs.Coming.{knows_set}
 use Rattle.camac_lang.specs.declared.spot.Spot.{Spot}
 
 pub map_some : {A : Type 0} (o : Option A) (P Q : A → Type 0) → ((v : A) → P v → Q v) → IfSome o P → IfSome o Q
@@ -46,17 +39,57 @@ pub some_of : {A : Type 0} (o : Option A) → is_some o ≡ true → (v : A) × 
 some_of None e = absurd (false≢true e)
 some_of (Some v) e = (v, refl)
 
-pub last_is : {A : Type 0} (xs : List A) (last : A) → 1 ≤ length xs → last ≡ get_or xs (length xs - 1) last → (before : List A) × (xs ≡ before ++ last ∷ [])
-last_is xs last some is =
-    let r = split_last (length xs - 1) xs last (omega arith) in (r.0, r.1 ∙ ap (λ y. r.0 ++ y ∷ []) (sym is))
-
 -- ---- values
 
-pub variables_known : (p : Places) (values : List ℕ) (known : List (Option ℕ)) → known ≡ held_at p (map Some values) → KnowsVariables known (variables_in (held_at p values))
-variables_known p values known is = subst (λ (ks : List (Option ℕ)). KnowsVariables ks (variables_in (held_at p values))) (sym is) (knows_held p values)
+-- what lies at these places
+dropped_at : {A : Type 0} (xs : List A) (s i : ℕ) → slice_get (drop s xs) i ≡ slice_get xs (s + i)
+dropped_at xs zero i = let e : i ≡ 0 + i = omega arith in ap (λ j. slice_get xs j) e
+dropped_at [] (suc s) i = refl
+dropped_at (x ∷ xs) (suc s) i = let e : suc (s + i) ≡ suc s + i = omega arith in dropped_at xs s i ∙ ap (λ j. slice_get (x ∷ xs) j) e
 
-pub registers_known : (known held : List (Option Address)) (all : Registers) → known ≡ held → all ≡ registers_in held → KnowsRegisters known all
-registers_known known held all e is i v there = ap (λ (g : Registers). g i) is ∙ ap (λ (l : List (Option Address)). get_or l i None) (sym e) ∙ there
+pub seen_is : {A : Type 0} (p : Places) (all : List A) (i : ℕ) (v : A) → i < p.end - p.start → p.end ≤ length all → v ≡ get_or all (p.start + i) v → slice_get (held_at p all) i ≡ Some v
+seen_is p all i v less within is =
+    taken_at (drop p.start all) (p.end - p.start) i less
+    ∙ dropped_at all p.start i
+    ∙ slice_get-get_or all (p.start + i) v (omega (arith, less, within))
+    ∙ ap Some (sym is)
+
+-- a register that lies at a place
+pub register_held : (held : List (Option Address)) (i : ℕ) (o : Option Address) → slice_get held i ≡ Some o → IfSome o (λ v. get_or held i None ≡ Some v)
+register_held held i None there = tt
+register_held held i (Some v) there = get_or_from_slice_get held i (Some v) None there
+
+-- a list of what is known, filled up to a place
+module _ {A : Type 0} (P : ℕ → A → Type 0) (known : List (Option A)) where
+  pub filled_on : (i : ℕ) (o : Option A) → ((j : ℕ) (v : A) → j < i → get_or known j None ≡ Some v → P j v) → IfSome o (P i) → (j : ℕ) (v : A) → j < i + 1 → get_or (set known i o) j None ≡ Some v → P j v
+  filled_on i o h here j v less e =
+      elim (cases_eq j i) [
+        | inl same ↦
+            elim (cases_lt i (length known)) [
+              | inl within ↦ subst (λ k. P k v) (sym same) (at o here (sym (get_or-set_same known i o None within) ∙ ap (λ k. get_or (set known i o) k None) (sym same) ∙ e))
+              | inr past ↦ absurd (none_some v (sym (get_or_past (set known i o) j None (rw (length-set, same) past)) ∙ e))
+            ]
+        | inr other ↦
+            let below : j < i = omega (arith, less, other) in
+            h j v below (sym (get_or-set_other known i j o None other) ∙ e)
+      ]
+    where
+      none_some : (v : A) → ◌≡◌ {A = Option A} None (Some v) → ⊥
+      none_some v e = absurd (cc)
+
+      at : (o : Option A) → IfSome o (P i) → o ≡ Some v → P i v
+      at None here q = absurd (cc)
+      at (Some u) here q = let same : u ≡ v = cc in subst (P i) same here
+
+  pub filled : ((j : ℕ) (v : A) → j < length known → get_or known j None ≡ Some v → P j v) → (j : ℕ) (v : A) → get_or known j None ≡ Some v → P j v
+  filled h j v e =
+      elim (cases_lt j (length known)) [
+        | inl less ↦ h j v less e
+        | inr past ↦ absurd (none_some v (sym (get_or_past known j None past) ∙ e))
+      ]
+    where
+      none_some : (v : A) → ◌≡◌ {A = Option A} None (Some v) → ⊥
+      none_some v e = absurd (cc)
 
 -- what was read is not known
 pub read_known : (known : List (Option ℕ)) (f g : Variables) (x v : ℕ) → g ≡ set_at x v f → KnowsVariables known f → KnowsVariables (set known x None) g
@@ -122,7 +155,7 @@ module _ (c : Context) (known : List (Option ℕ)) (registers : List (Option Add
   put_needs_none spot e s kn = go (value e s.variables) refl
     where
       go : (o : Option ℕ) → value e s.variables ≡ o → PassesFrom s (effect c most_turns (put spot e)) known registers
-      go None is = inl (λ answers. ap (λ p. given p (λ v t. ends (with_word v t)) (on answers s)) is)
+      go None is = inl (s, λ answers. ap (λ p. given p (λ v t. ends (with_word v t)) (on answers s)) is)
       go (Some v) is =
           inr (with_word v s, record { variables_are = kn.variables_are; registers_are = kn.registers_are }, λ answers. ap (λ p. given p (λ v t. ends (with_word v t)) (on answers s)) is)
 
@@ -134,7 +167,7 @@ module _ (c : Context) (known : List (Option ℕ)) (registers : List (Option Add
       is_it (Some u) v h is w q = let a : Some u ≡ Some v = sym (h s.variables kn.variables_are) ∙ is in cc
 
       go : (p : Option ℕ) → value e s.variables ≡ p → PassesFrom s (effect c most_turns (assign spot x e)) (set known x o) registers
-      go None is = inl (λ answers. ap (λ p. given p (λ v t. ends (with_variable x v t)) (on answers s)) is)
+      go None is = inl (s, λ answers. ap (λ p. given p (λ v t. ends (with_variable x v t)) (on answers s)) is)
       go (Some v) is =
           inr (
             with_variable x v s,
@@ -172,60 +205,12 @@ module _ (c : Context) (known : List (Option ℕ)) (registers : List (Option Add
         by p1 p2 p3 answers i1 i2 i3 = rw (← i1, ← i2, ← i3) refl
 
         go : (p1 p2 p3 : Option ℕ) → value e1 s.variables ≡ p1 → value e2 s.variables ≡ p2 → value e3 s.variables ≡ p3 → PassesFrom s (effect c most_turns (set_register spot r e1 e2 e3)) known (set registers r o)
-        go None p2 p3 i1 i2 i3 = inl (λ answers. by None p2 p3 answers i1 i2 i3)
-        go (Some x) None p3 i1 i2 i3 = inl (λ answers. by (Some x) None p3 answers i1 i2 i3)
-        go (Some x) (Some y) None i1 i2 i3 = inl (λ answers. by (Some x) (Some y) None answers i1 i2 i3)
+        go None p2 p3 i1 i2 i3 = inl (s, λ answers. by None p2 p3 answers i1 i2 i3)
+        go (Some x) None p3 i1 i2 i3 = inl (s, λ answers. by (Some x) None p3 answers i1 i2 i3)
+        go (Some x) (Some y) None i1 i2 i3 = inl (s, λ answers. by (Some x) (Some y) None answers i1 i2 i3)
         go (Some x) (Some y) (Some z) i1 i2 i3 =
             inr (
               with_register r (address x y z) s,
               record { variables_are = kn.variables_are; registers_are = knows_set Some registers s.registers r o (Some (address x y z)) kn.registers_are (same_at s kn o x y z has i1 i2 i3) },
               λ answers. by (Some x) (Some y) (Some z) answers i1 i2 i3,
             )
-
--- ---- the steps of a frame
-
-module _ (c : Context) (us : List ℕ) (qs : List (Option Address)) (frame : Frame) where
-  pub advance_is : (first : Stmt) (more : List Stmt) (variables variables' : List (Option ℕ)) (registers registers' : List (Option Address)) (its : Sure) → frame.rest.now ≡ first ∷ more → IsSure c variables registers (statement_of first) its variables' registers'
-      → IsStep c (open_of us qs frame) variables registers its (record { block = statements_of more; owner = owner_of us qs frame.owner }) variables' registers'
-  advance_is first more variables variables' registers registers' its is sure =
-      subst (λ (ss : List Stmt). IsStep c (record { block = statements_of ss; owner = owner_of us qs frame.owner }) variables registers its (record { block = statements_of more; owner = owner_of us qs frame.owner }) variables' registers') (sym is)
-      (statement_step c (statement_of first) (statements_of more) (owner_of us qs frame.owner) variables registers variables' registers' its sure)
-
-  pub turn_is : (x v w n m : ℕ) (body : Bor (List Stmt)) (variables variables' : List (Option ℕ)) (registers : List (Option Address)) → frame.rest.now ≡ [] → frame.owner ≡ rust.For x v w n body → v < w → m ≡ n - 1 → variables' ≡ set variables x (Some (v + 1))
-      → IsStep c (open_of us qs frame) variables registers sure.NeedsNone (open_of us qs (record { rest = body; owner = rust.For x (v + 1) w m body })) variables' registers
-  turn_is x v w n m body variables variables' registers over its less fewer known =
-      subst (λ (ss : List Stmt). IsStep c (record { block = statements_of ss; owner = owner_of us qs frame.owner }) variables registers sure.NeedsNone (open_of us qs (record { rest = body; owner = rust.For x (v + 1) w m body })) variables' registers) (sym over)
-      (subst (λ (o : rust_owner.Owner). IsStep c (record { block = done; owner = owner_of us qs o }) variables registers sure.NeedsNone (open_of us qs (record { rest = body; owner = rust.For x (v + 1) w m body })) variables' registers) (sym its)
-      (subst (λ j. IsStep c (record { block = done; owner = for_loop x v w n (statements_of body.now) }) variables registers sure.NeedsNone (record { block = statements_of body.now; owner = for_loop x (v + 1) w j (statements_of body.now) }) variables' registers) (sym fewer)
-      (subst (λ (ks : List (Option ℕ)). IsStep c (record { block = done; owner = for_loop x v w n (statements_of body.now) }) variables registers sure.NeedsNone (record { block = statements_of body.now; owner = for_loop x (v + 1) w (n - 1) (statements_of body.now) }) ks registers) (sym known)
-      (turn_step c x v w n (statements_of body.now) variables registers less))))
-
-module _ (c : Context) (o o' : Open) (variables variables' : List (Option ℕ)) (registers registers' : List (Option Address)) (old new : List Wanted) (its : Sure) (step : IsStep c o variables registers its o' variables' registers') where
-  pub adds_cycle : (k : Command) → its ≡ sure.Makes k → new ≡ old ++ wanted.Cycle k ∷ [] → Extends c o variables registers old o' variables' registers' new
-  adds_cycle k is e os a =
-      let s : IsStep c o variables registers (sure.Makes k) o' variables' registers' = subst (λ (i : Sure). IsStep c o variables registers i o' variables' registers') is step in
-      (wanted.Cycle k ∷ os, ap (λ (l : List Wanted). l ++ os) e ∙ append_assoc old (wanted.Cycle k ∷ []) os, s os a)
-
-  pub adds_none : its ≡ sure.NeedsNone → new ≡ old → Extends c o variables registers old o' variables' registers' new
-  adds_none is e os a =
-      let s : IsStep c o variables registers sure.NeedsNone o' variables' registers' = subst (λ (i : Sure). IsStep c o variables registers i o' variables' registers') is step in
-      (os, ap (λ (l : List Wanted). l ++ os) e, s os a)
-
--- nothing at the end of a block's known steps
-pub no_more : (c : Context) (o o' : Open) (variables variables' : List (Option ℕ)) (registers registers' : List (Option Address)) (old new new' : List Wanted) → Extends c o variables registers old o' variables' registers' new → new' ≡ new → Adds c o variables registers old new'
-no_more c o o' variables variables' registers registers' old new new' e same =
-    let r = e [] (λ bounds around s k fine leave. tt) in (r.0, same ∙ sym (append-nil new) ∙ r.1, r.2)
-
--- ---- a list that is filled
-
-pub fill_next : (values : List ℕ) (i : ℕ) (known : List (Option ℕ)) (d : ℕ) → i < length values → length known ≡ length values
-    → set (map Some (take i values) ++ drop i known) i (Some (get_or values i d)) ≡ map Some (take (suc i) values) ++ drop (suc i) known
-fill_next [] i known d less same = absurd (omega (arith, less))
-fill_next (v ∷ values) i [] d less same = absurd (omega (arith, same))
-fill_next (v ∷ values) zero (k ∷ known) d less same = refl
-fill_next (v ∷ values) (suc i) (k ∷ known) d less same = ap (λ l. Some v ∷ l) (fill_next values i known d (omega (arith, less)) (omega (arith, same)))
-
-pub fill_on : (values : List ℕ) (i : ℕ) (known : List (Option ℕ)) (d : ℕ) → i < length values → length known ≡ length values
-    → set (map Some (take i values) ++ drop i known) i (Some (get_or values i d)) ≡ map Some (take (i + 1) values) ++ drop (i + 1) known
-fill_on values i known d less same =
-    fill_next values i known d less same ∙ ap (λ j. map Some (take j values) ++ drop j known) (sym (add-one i))

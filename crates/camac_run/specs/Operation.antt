@@ -3,7 +3,7 @@ use Rattle.std.specs.Prelude.{◌≡◌, ℕ, ◌<◌, List, [], ◌∷◌, ◌+
 use Rattle.camac_lang.specs.Tree.{Script}
 use Rattle.camac_branch.specs.Branch.{Answer}
 use Rattle.camac_branch.specs.Plan.{Layout}
-use Rattle.camac_model.specs.Behaviour.{Behaviour, does, ends, stops, Piece, pieces, demanded, cycled, lock_taken, lock_released, event_left, Stop, short, overrun, wrong, more}
+use Rattle.camac_model.specs.Behaviour.{Behaviour, does, ends, stops, Piece, pieces, demanded, cycled, lock_taken, lock_released, event_left, Stop, short, overrun, more}
 use Rattle.camac_model.specs.Run.{the_run}
 use Rattle.camac_run.specs.Runner.{RunnerState, rest}
 use Rattle.camac_run.specs.declared.progress.Wanted.{Wanted}
@@ -40,9 +40,7 @@ crate_of (Lock c) = Some c
 -- the wait of this answer stops the operation; no wait never does
 abbrev pub StopsAt : Wanted → Answer → Stop → Type 0
 StopsAt o a (overrun c w) = (crate_of o ≡ Some c) × (w ≡ a.wait) × (0 < a.wait)
-StopsAt o a short = ⊥
-StopsAt o a wrong = ⊥
-StopsAt o a more = ⊥
+StopsAt o a _ = ⊥
 
 -- with this answer the operation is made, or stopped by its wait
 abbrev pub Begins : {A : Type 0} → Wanted → Answer → Behaviour A → Type 0
@@ -52,12 +50,9 @@ Begins o a (stops w s) = StopsAt o a w
 
 -- for want of an answer nothing more is done
 abbrev pub Waits : {A : Type 0} → Behaviour A → Type 0
-Waits (does p b) = ⊥
 Waits (ends x) = Unit {0}
 Waits (stops short s) = Unit {0}
-Waits (stops (overrun c w) s) = ⊥
-Waits (stops wrong s) = ⊥
-Waits (stops more s) = ⊥
+Waits _ = ⊥
 
 -- Whatever the next answer is, and those after it, it is used for this operation, and nothing is done without one. A run wants none after
 -- a wait that was not permitted, and none while it pauses.

@@ -1,22 +1,25 @@
 -- What a service in progress surely does, whatever is answered, by what is known before the answers.
-use Rattle.std.specs.Prelude.{◌≡◌, ◌⊎◌, ℕ, List, ◌∷◌, ◌++◌, Option, Some, None, slice_index_or}
+use Rattle.std.specs.Prelude.{◌≡◌, ◌⊎◌, ℕ, Bool, true, false, List, ◌++◌, take, Option, Some, None, slice_index_or}
 use Rattle.camac_branch.specs.Address.{Address}
 use Rattle.camac_branch.specs.Branch.{Answer}
+use Rattle.camac_branch.specs.Plan.{Layout}
 use Rattle.camac_branch.specs.declared.answer.Command.{Command}
+use Rattle.camac_checked.specs.Checked.{CheckedScript}
 use Rattle.camac_lang.specs.Tree.{Expression, Statement}
 use Rattle.camac_model.specs.Behaviour.{Behaviour, ends, stops, wrong, Action, then_do}
 use Rattle.camac_model.specs.Fine.{Bounds, IsFine, most_turns}
-use Rattle.camac_model.specs.Meaning.{Context, effect}
+use Rattle.camac_model.specs.Meaning.{Context, context, effect}
 use Rattle.camac_model.specs.State.{State, Registers, Variables, set_at}
 use Rattle.camac_model.specs.Value.{value}
 use Rattle.camac_machine.specs.MachineState.{bounds_of, context_in, left_in, registers_here, variables_here}
-use Rattle.camac_machine.specs.Rest.{Operation, makes, reads, locks, transfers, pauses, awaited, Open, left_of}
+use Rattle.camac_machine.specs.Rest.{Operation, makes, reads, locks, transfers, pauses, awaited}
 use Rattle.camac_machine.specs.declared.machine.Machine.{Machine}
 use Rattle.camac_run.specs.Ahead.{AreAhead}
+use Rattle.camac_run.specs.declared.ahead.Inside.{Inside}
+use Rattle.camac_run.specs.declared.ahead.Known.{Known}
 use Rattle.camac_run.specs.declared.ahead.Sure.{Sure}
 use Rattle.camac_run.specs.declared.ahead.Sure.TheVariants as sure
 use Rattle.camac_run.specs.declared.progress.Wanted.{Wanted}
-use Rattle.camac_run.specs.declared.progress.Wanted.TheVariants.{Cycle}
 
 -- what is known of values by their numbers is so
 abbrev pub Knows : {A B : Type 0} → (A → B) → List (Option A) → (ℕ → B) → Type 0
@@ -66,7 +69,7 @@ pub record MakesCycle (c : Context) (variables : List (Option ℕ)) (registers :
 -- what needs no answer, and leaves so much known; or is wrong
 abbrev pub PassesFrom : State → Action → List (Option ℕ) → List (Option Address) → Type 0
 PassesFrom s go variables registers =
-    ((answers : List Answer) → go (on answers s) ≡ stops wrong (on answers s))
+    ((t : State) × ((answers : List Answer) → go (on answers s) ≡ stops wrong (on answers t)))
     ⊎ ((t : State) × IsKnown variables registers t × ((answers : List Answer) → go (on answers s) ≡ ends (on answers t)))
 
 -- the statement is such a one, wherever so much is known before it
@@ -85,37 +88,37 @@ abbrev pub sure_of : Option Command → Sure
 sure_of None = sure.Unknown
 sure_of (Some k) = sure.Makes k
 
+-- what a block sees that stands before the procedure of this number
+abbrev pub context_before : CheckedScript → ℕ → Context
+context_before c i = context c.plan (record c.script { procedures = take i c.script.procedures })
+
+abbrev pub context_of : Inside → Context
+context_of b = context_before b.checked.now b.procedures
+
 -- where it is fine to do this, these operations are ahead, whatever the service leaves after it
-abbrev pub LeadsTo : Context → Bounds → Action → State → List Wanted → Type 0
-LeadsTo c bounds go s os =
-    ((answers : List Answer) → IsFine c.plan bounds (go (on answers s)))
+abbrev pub LeadsTo : Layout → Bounds → Action → State → List Wanted → Type 0
+LeadsTo plan bounds go s os =
+    ((answers : List Answer) → IsFine plan bounds (go (on answers s)))
     → (leave : State → Behaviour (Unit {0})) → AreAhead os (λ answers. then_do (go (on answers s)) leave)
 
--- they are ahead of what is left of an open block, whatever is around it
-abbrev pub BlockLeadsTo : Context → Open → List (Option ℕ) → List (Option Address) → List Wanted → Type 0
-BlockLeadsTo c o variables registers os =
-    (bounds : Bounds) (around : Action) (s : State) → IsKnown variables registers s → LeadsTo c bounds (λ t. then_do (left_of c o t) around) s os
+-- they are ahead wherever so much is known
+abbrev pub Leads : Layout → Bounds → Known → Action → List Wanted → Type 0
+Leads plan bounds k go os = (s : State) → IsKnown k.variables k.registers s → LeadsTo plan bounds go s os
 
--- after one step of a block, what is ahead then is ahead, and the cycle of the step before it
-abbrev pub IsStep : Context → Open → List (Option ℕ) → List (Option Address) → Sure → Open → List (Option ℕ) → List (Option Address) → Type 0
-IsStep c o variables registers (sure.Makes k) o' variables' registers' =
-    (os : List Wanted) → BlockLeadsTo c o' variables' registers' os → BlockLeadsTo c o variables registers (Cycle k ∷ os)
-IsStep c o variables registers sure.NeedsNone o' variables' registers' =
-    (os : List Wanted) → BlockLeadsTo c o' variables' registers' os → BlockLeadsTo c o variables registers os
-IsStep c o variables registers sure.Unknown o' variables' registers' = Unit {0}
+-- This makes these operations, whatever is answered. If they are all, so much is known after it: what is ahead then is ahead behind them.
+-- Else it makes them first, and it is not known how it goes on.
+abbrev pub Goes : Layout → Action → Known → List Wanted → (all : Bool) → Known → Type 0
+Goes plan go before made true after =
+    (bounds : Bounds) (around : Action) (os : List Wanted) → Leads plan bounds after around os → Leads plan bounds before (λ s. then_do (go s) around) (made ++ os)
+Goes plan go before made false after = (bounds : Bounds) (around : Action) → Leads plan bounds before (λ s. then_do (go s) around) made
 
--- what is ahead after some steps of a block is ahead before them, behind what these steps added
-abbrev pub Extends : Context → Open → List (Option ℕ) → List (Option Address) → List Wanted → Open → List (Option ℕ) → List (Option Address) → List Wanted → Type 0
-Extends c o variables registers old o' variables' registers' new =
-    (os : List Wanted) → BlockLeadsTo c o' variables' registers' os → (more : List Wanted) × (new ++ os ≡ old ++ more) × BlockLeadsTo c o variables registers more
-
--- operations that are ahead of a block are added to others
-abbrev pub Adds : Context → Open → List (Option ℕ) → List (Option Address) → (old new : List Wanted) → Type 0
-Adds c o variables registers old new = (added : List Wanted) × (new ≡ old ++ added) × BlockLeadsTo c o variables registers added
+-- operations that this makes are added to others
+abbrev pub Adds : Layout → Action → (before : Known) → (old : List Wanted) → (all : Bool) → (after : Known) → (new : List Wanted) → Type 0
+Adds plan go before old all after new = (made : List Wanted) × (new ≡ old ++ made) × Goes plan go before made all after
 
 -- those that are ahead after what is waited for
 abbrev pub AddsFollowing : {V D C : ℕ} → Machine V D C → Operation → (old new : List Wanted) → Type 0
 AddsFollowing h w old new =
     (added : List Wanted)
     × (new ≡ old ++ added)
-    × ((t : State) → t.registers ≡ registers_here h → After w (variables_here h) t.variables → LeadsTo (context_in h.checked.now) (bounds_of h) (left_in h) t added)
+    × ((t : State) → t.registers ≡ registers_here h → After w (variables_here h) t.variables → LeadsTo h.checked.now.plan (bounds_of h) (left_in h) t added)

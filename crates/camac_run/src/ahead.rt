@@ -1,14 +1,17 @@
 // The cycles that surely follow the one that a service in progress waits for.
 
-ghost use Rattle.std.specs.Prelude.{◌≡◌, ◌<◌, ℕ, List, Option, None, IfSome, IsSome, Some, false, true, length, map, set, slice_index_or, []};
+ghost use Rattle.std.specs.Prelude.{◌≡◌, ◌+◌, ◌-◌, ◌<◌, ◌≤◌, ℕ, List, Option, None, IfSome, IsSome, IsSomeAnd, Some, true, false, map, replicate, set, slice_get, slice_index_or, []};
 ghost use Rattle.arrayvec.specs.ArrayVec.{array_vec_len};
 ghost use Rattle.camac_branch.specs.Address.{Address as At};
 ghost use Rattle.camac_esone.specs.Calls.{command_at};
-ghost use Rattle.camac_lang.specs.View.{crate_action_of, expression_of, lam_action_of, single_of, statement_of};
-ghost use Rattle.camac_machine.specs.MachineState.{context_in, open_of, pending_of, HasRoom};
-ghost use Rattle.camac_model.specs.Meaning.{Context, fits_size};
-ghost use Rattle.camac_model.specs.State.{Variables};
-ghost use Rattle.camac_run.specs.Sure.{KnowsVariables, HasValue, After, cycle_of, MakesCycle, IsSure, sure_of, IsStep, Extends, Adds, AddsFollowing};
+ghost use Rattle.camac_lang.specs.View.{call_of, crate_action_of, expression_of, for_of, lam_action_of, single_of, statement_of, statements_of};
+ghost use Rattle.camac_machine.specs.MachineState.{context_in, opens_of, owner_in, pending_of};
+ghost use Rattle.camac_machine.specs.Rest.{owed, rest_in};
+ghost use Rattle.camac_machine.specs.Store.{held_at, registers_in, variables_in};
+ghost use Rattle.camac_model.specs.Fine.{most_turns};
+ghost use Rattle.camac_model.specs.Meaning.{Context, block_meaning, effect, fits_size, for_from, for_state, for_turns};
+ghost use Rattle.camac_model.specs.State.{Variables, stepped};
+ghost use Rattle.camac_run.specs.Sure.{KnowsVariables, KnowsRegisters, HasValue, After, cycle_of, MakesCycle, IsSure, sure_of, context_before, context_of, Adds, AddsFollowing};
 
 use crate::progress::Wanted;
 use arrayvec::ArrayVec;
@@ -17,9 +20,10 @@ use camac_checked::Checked;
 use camac_esone::{Address, crate_call, lam_function};
 use camac_func::DataMove;
 use camac_lang::{
-    CrateAction, Expr, Form, LamAction, Move, RegisterSetting, SingleAction, Stmt, WordSize,
+    CrateAction, Expr, ForHead, Form, LamAction, Move, ProcedureCall, RegisterSetting,
+    SingleAction, Stmt, WordSize, limits,
 };
-use camac_machine::{Frame, Machine, Owner, Pending};
+use camac_machine::{Frame, Machine, Owner, Pending, Places, Scope};
 use camac_word::{CrateNo, Function, Station, SubAddress, Word24};
 
 /// The most operations that are told ahead.
@@ -31,7 +35,7 @@ const STEPS: u32 = 512;
 /// Operations that come next, whatever is answered.
 pub type Ahead = ArrayVec<Wanted, AHEAD>;
 
-/// What the next step of a block surely does.
+/// What a statement that holds no other surely does.
 pub enum Sure {
     /// It makes this cycle.
     Makes(Command),
@@ -41,29 +45,111 @@ pub enum Sure {
     Unknown,
 }
 
-/// Adds the cycles that surely follow what a service in progress waits for.
+/// What is known of the variables and registers of a body.
+#[derive(Drop)]
+pub struct Known {
+    pub variables: [Option<u32>; limits::VARIABLES],
+    pub registers: [Option<Address>; limits::REGISTERS],
+}
+
+/// The operations so far, and how many steps are looked ahead after them at most.
+#[derive(Drop)]
+pub struct Coming {
+    pub ahead: Ahead,
+    pub steps: u32,
+}
+
+/// What a block may call, the procedures of a script before this one, and how many blocks more are looked into.
+#[derive(Clone, Copy)]
+pub struct Inside<'a> {
+    pub checked: &'a Checked,
+    pub procedures: usize,
+    pub depth: u32,
+}
+
+impl Known {
+    // Nothing is known.
+    fn nothing() -> Known
+        ensures { result ≡ record { variables = replicate 64 None; registers = replicate 64 None } }
+    {
+        Known {
+            variables: [None; limits::VARIABLES],
+            registers: [None; limits::REGISTERS],
+        }
+    }
+
+    // All is known of what a body sees.
+    fn see(&mut self, scope: &Scope, variables: &[u32], registers: &[Option<Address>])
+        ensures variables { KnowsVariables self.new.variables (variables_in (held_at scope.now.variables variables.now)) }
+        ensures registers { KnowsRegisters self.new.registers (registers_in (held_at scope.now.registers registers.now)) }
+    {
+        see_variables(scope.variables, variables, &mut self.variables);
+        see_registers(scope.registers, registers, &mut self.registers);
+    }
+}
+
+impl Coming {
+    /// No operation yet.
+    pub fn nothing() -> Coming
+        ensures { result.ahead.items ≡ [] }
+    {
+        Coming {
+            ahead: Ahead::new(),
+            steps: STEPS,
+        }
+    }
+
+    // Makes so many steps, if that many are left.
+    fn step(&mut self, steps: usize) -> bool
+        ensures { self.new ≡ record self.old { steps = self.new.steps } }
+    {
+        if steps > self.steps as usize {
+            return false;
+        }
+        self.steps -= steps as u32;
+        true
+    }
+}
+
+impl<'a> Inside<'a> {
+    // Sees all procedures of a script.
+    fn of_all(checked: &'a Checked) -> Inside<'a>
+        ensures checked { result.checked ≡ checked.entry }
+        ensures context { context_of result ≡ context_in checked.entry.now }
+    {
+        Inside {
+            checked,
+            procedures: checked.script().procedures().len(),
+            depth: limits::DEPTH as u32,
+        }
+    }
+
+    // Inside a block more, which sees the procedures before this one.
+    fn within(&self, procedures: usize) -> Inside<'a>
+        requires { 0 < self.now.depth }
+        ensures { result ≡ record { checked = self.now.checked; procedures = procedures; depth = self.now.depth - 1 } }
+    {
+        Inside {
+            checked: self.checked,
+            procedures,
+            depth: self.depth - 1,
+        }
+    }
+}
+
+/// Adds the operations that surely follow what a service in progress waits for.
 pub fn add_following<const V: usize, const DEPTH: usize, const CAP: usize>(
     machine: &Machine<'_, V, DEPTH, CAP>,
     pending: &Pending,
-    ahead: &mut Ahead,
+    coming: &mut Coming,
 )
-    requires room { HasRoom machine.now }
-    requires cycle { IsSome (cycle_of (pending_of pending.now)) }
-    ensures { AddsFollowing machine.now (pending_of pending.now) ahead.old.items ahead.new.items }
+    requires { IsSome (cycle_of (pending_of pending.now)) }
+    ensures { AddsFollowing machine.now (pending_of pending.now) coming.old.ahead.items coming.new.ahead.items }
 {
-    if let [.., innermost] = machine.frames.as_slice() {
-        let seen = machine.scope;
-        let mut variables = [None; V];
-        know_all(&machine.variables, &mut variables);
-        let mut registers = [None; V];
-        registers.copy_from_slice(&machine.registers);
-        let variables = &mut variables[..];
-        let variables = &mut variables[seen.variables.start..seen.variables.end];
-        let registers = &mut registers[..];
-        let registers = &mut registers[seen.registers.start..seen.registers.end];
-        forget_read(pending, variables);
-        add_cycles(machine.checked, *innermost, variables, registers, ahead);
-    }
+    let mut known = Known::nothing();
+    known.see(&machine.scope, &machine.variables, &machine.registers);
+    forget_read(pending, &mut known.variables);
+    add_open(machine, machine.frames.as_slice(), &mut known, coming);
 }
 
 // Forgets the variable of a read that is waited for.
@@ -79,13 +165,34 @@ fn forget_read(pending: &Pending, variables: &mut [Option<u32>])
     }
 }
 
-// Takes these values as known.
-fn know_all(values: &[u32], known: &mut [Option<u32>])
-    requires { length values.now ≡ length known.old }
-    ensures { known.new ≡ map Some values.now }
+// The value that lies at these places under this number.
+fn seen<T: Copy>(places: Places, all: &[T], i: usize) -> Option<T>
+    ensures { IfSome result (λ v. slice_get (held_at places all.now) i ≡ Some v) }
 {
-    for i in 0..values.len() {
-        known[i] = Some(values[i]);
+    if places.start > places.end || places.end > all.len() || i >= places.end - places.start {
+        return None;
+    }
+    Some(all[places.start + i])
+}
+
+// Takes the variables at these places as known, and no others.
+fn see_variables(places: Places, all: &[u32], known: &mut [Option<u32>])
+    ensures { KnowsVariables known.new (variables_in (held_at places all.now)) }
+{
+    'variables: for i in 0..known.len() {
+        known[i] = seen(places, all, i);
+    }
+}
+
+// The same of registers.
+fn see_registers(places: Places, all: &[Option<Address>], known: &mut [Option<Address>])
+    ensures { KnowsRegisters known.new (registers_in (held_at places all.now)) }
+{
+    'registers: for i in 0..known.len() {
+        known[i] = match seen(places, all, i) {
+            Some(register) => register,
+            None => None,
+        };
     }
 }
 
@@ -98,42 +205,117 @@ fn note<T: Copy>(known: &mut [Option<T>], place: usize, value: Option<T>)
     }
 }
 
-// Adds the cycles of a block, up to the first step that is not known.
-fn add_cycles<'a>(
-    checked: &Checked,
-    frame: Frame<'a>,
-    variables: &mut [Option<u32>],
-    registers: &mut [Option<Address>],
-    ahead: &mut Ahead,
+// Adds what the open blocks surely make, from the innermost on.
+fn add_open<const V: usize, const DEPTH: usize, const CAP: usize>(
+    machine: &Machine<'_, V, DEPTH, CAP>,
+    frames: &[Frame<'_>],
+    known: &mut Known,
+    coming: &mut Coming,
 )
-    ensures { (us : List ℕ) (qs : List (Option At)) → Adds (context_in checked.now) (open_of us qs frame.entry) variables.old registers.old ahead.old.items ahead.new.items }
+    ensures { Adds machine.now.checked.now.plan (rest_in (context_in machine.now.checked.now) (opens_of machine.now.variables machine.now.registers frames.now)) known.old coming.old.ahead.items false known.new coming.new.ahead.items }
 {
-    let mut at = frame;
-    'steps: for _step in 0..STEPS {
-        if ahead.is_full() {
+    if let [outer @ .., innermost] = frames {
+        let inside = Inside::of_all(machine.checked);
+        if !add_block(&inside, innermost.rest, known, coming) {
             return;
         }
-        if !add_step(checked, &mut at, variables, registers, ahead) {
+        if !add_after(machine, &inside, &innermost.owner, known, coming) {
             return;
+        }
+        add_open(machine, outer, known, coming);
+    }
+}
+
+// Adds what surely goes on after an open block. Answers whether that is all.
+fn add_after<const V: usize, const DEPTH: usize, const CAP: usize>(
+    machine: &Machine<'_, V, DEPTH, CAP>,
+    inside: &Inside<'_>,
+    owner: &Owner<'_>,
+    known: &mut Known,
+    coming: &mut Coming,
+) -> bool
+    ensures { Adds inside.now.checked.now.plan (owed (context_of inside.now) (owner_in machine.now owner.now)) known.old coming.old.ahead.items result known.new coming.new.ahead.items }
+{
+    match owner {
+        Owner::Plain => true,
+        Owner::Locked(_) => false,
+        Owner::For {
+            variable,
+            current,
+            last,
+            body,
+            ..
+        } => {
+            if *current < *last {
+                return add_turns(inside, *variable, *current + 1, *last, body, known, coming);
+            }
+            note(&mut known.variables, *variable, Some(*last));
+            true
+        }
+        Owner::While { .. } => false,
+        Owner::Return(caller) => {
+            known.see(caller, &machine.variables, &machine.registers);
+            true
         }
     }
 }
 
-// Goes on by a step, and adds its cycle, if it makes one. Answers whether the step was known.
-fn add_step<'a>(
-    checked: &Checked,
-    frame: &mut Frame<'a>,
-    variables: &mut [Option<u32>],
-    registers: &mut [Option<Address>],
-    ahead: &mut Ahead,
-) -> bool
-    requires { array_vec_len ahead.old < 64 }
-    ensures known { result ≡ true → (us : List ℕ) (qs : List (Option At)) → Extends (context_in checked.now) (open_of us qs frame.old) variables.old registers.old ahead.old.items (open_of us qs frame.new) variables.new registers.new ahead.new.items }
-    ensures unknown { result ≡ false → ahead.new.items ≡ ahead.old.items }
+// Adds what a block surely makes. Answers whether that is all of it; else it is not known how the block goes on.
+#[cycle(walk)]
+fn add_block(inside: &Inside<'_>, block: &[Stmt], known: &mut Known, coming: &mut Coming) -> bool
+    ensures { Adds inside.now.checked.now.plan (block_meaning (context_of inside.now) most_turns (statements_of block.now)) known.old coming.old.ahead.items result known.new coming.new.ahead.items }
 {
-    match advance(checked, frame, variables, registers) {
+    'statements: for statement in block {
+        if !add_statement(inside, statement, known, coming) {
+            return false;
+        }
+    }
+    true
+}
+
+// The same of a statement from its beginning on.
+#[cycle(walk)]
+fn add_statement(
+    inside: &Inside<'_>,
+    statement: &Stmt,
+    known: &mut Known,
+    coming: &mut Coming,
+) -> bool
+    ensures { Adds inside.now.checked.now.plan (λ s. effect (context_of inside.now) most_turns (statement_of statement.now) (stepped s)) known.old coming.old.ahead.items result known.new coming.new.ahead.items }
+{
+    if coming.ahead.is_full() {
+        return false;
+    }
+    if !coming.step(1) {
+        return false;
+    }
+    match statement {
+        Stmt::For { head, body } => add_for(inside, head, body, known, coming),
+        Stmt::ForEach {
+            variable,
+            first,
+            last,
+            body,
+            ..
+        } => add_from(inside, *variable, *first, *last, body, known, coming),
+        Stmt::Call(call) => add_call(inside, call, known, coming),
+        _ => add_simple(inside, statement, known, coming),
+    }
+}
+
+// The same of a statement that holds no other.
+fn add_simple(inside: &Inside<'_>, statement: &Stmt, known: &mut Known, coming: &mut Coming) -> bool
+    requires { array_vec_len coming.old.ahead < 64 }
+    ensures { Adds inside.now.checked.now.plan (effect (context_of inside.now) most_turns (statement_of statement.now)) known.old coming.old.ahead.items result known.new coming.new.ahead.items }
+{
+    match known_of(
+        inside.checked,
+        statement,
+        &mut known.variables,
+        &mut known.registers,
+    ) {
         Sure::Makes(command) => {
-            ahead.push(Wanted::Cycle(command));
+            coming.ahead.push(Wanted::Cycle(command));
             true
         }
         Sure::NeedsNone => true,
@@ -141,49 +323,124 @@ fn add_step<'a>(
     }
 }
 
-// Goes on by a step: the next statement of a block, or the next turn of its `for`.
-fn advance<'a>(
-    checked: &Checked,
-    frame: &mut Frame<'a>,
-    variables: &mut [Option<u32>],
-    registers: &mut [Option<Address>],
-) -> Sure
-    ensures { (us : List ℕ) (qs : List (Option At)) → IsStep (context_in checked.now) (open_of us qs frame.old) variables.old registers.old result (open_of us qs frame.new) variables.new registers.new }
+// `for`.
+#[cycle(walk)]
+fn add_for(
+    inside: &Inside<'_>,
+    head: &ForHead,
+    body: &[Stmt],
+    known: &mut Known,
+    coming: &mut Coming,
+) -> bool
+    ensures { Adds inside.now.checked.now.plan (effect (context_of inside.now) most_turns (for_of head.now (statements_of body.now))) known.old coming.old.ahead.items result known.new coming.new.ahead.items }
 {
-    match frame.rest {
-        [] => turn(frame, variables),
-        [first, rest @ ..] => {
-            frame.rest = rest;
-            known_of(checked, first, variables, registers)
-        }
-    }
+    let Some(first) = value_of(&head.from, &known.variables) else {
+        return false;
+    };
+    let Some(last) = value_of(&head.to, &known.variables) else {
+        return false;
+    };
+    add_from(inside, head.variable, first, last, body, known, coming)
 }
 
-// Begins the next turn of a `for`.
-fn turn<'a>(frame: &mut Frame<'a>, variables: &mut [Option<u32>]) -> Sure
-    requires { frame.old.rest.now ≡ [] }
-    ensures { (c : Context) (us : List ℕ) (qs registers : List (Option At)) → IsStep c (open_of us qs frame.old) variables.old registers result (open_of us qs frame.new) variables.new registers }
+// A `for` between two numbers.
+#[cycle(walk)]
+fn add_from(
+    inside: &Inside<'_>,
+    variable: usize,
+    first: u32,
+    last: u32,
+    body: &[Stmt],
+    known: &mut Known,
+    coming: &mut Coming,
+) -> bool
+    ensures { Adds inside.now.checked.now.plan (for_from (last + 1 - first) most_turns variable first last (block_meaning (context_of inside.now) most_turns (statements_of body.now))) known.old coming.old.ahead.items result known.new coming.new.ahead.items }
 {
-    match frame.owner {
-        Owner::For {
-            variable,
-            current,
-            last,
-            turns,
-            body,
-        } if current < last => {
-            let owner = Owner::For {
-                variable,
-                current: current + 1,
-                last,
-                turns: turns.saturating_sub(1),
-                body,
-            };
-            *frame = Frame { rest: body, owner };
-            note(variables, variable, Some(current + 1));
-            Sure::NeedsNone
+    if first > last {
+        return true;
+    }
+    add_turns(inside, variable, first, last, body, known, coming)
+}
+
+// The turns of a `for` from this one on.
+#[cycle(walk)]
+fn add_turns(
+    inside: &Inside<'_>,
+    variable: usize,
+    first: u32,
+    last: u32,
+    body: &[Stmt],
+    known: &mut Known,
+    coming: &mut Coming,
+) -> bool
+    requires { first ≤ last }
+    ensures { (n : ℕ) → Adds inside.now.checked.now.plan (for_turns (last + 1 - first) n variable first last (block_meaning (context_of inside.now) most_turns (statements_of body.now))) known.old coming.old.ahead.items result known.new coming.new.ahead.items }
+{
+    'turns: for value in first..last {
+        if !add_turn(inside, variable, value, body, known, coming) {
+            return false;
         }
-        _ => Sure::Unknown,
+    }
+    if !add_turn(inside, variable, last, body, known, coming) {
+        return false;
+    }
+    note(&mut known.variables, variable, Some(last));
+    true
+}
+
+// One of them.
+#[cycle(walk)]
+fn add_turn(
+    inside: &Inside<'_>,
+    variable: usize,
+    value: u32,
+    body: &[Stmt],
+    known: &mut Known,
+    coming: &mut Coming,
+) -> bool
+    ensures { Adds inside.now.checked.now.plan (λ s. block_meaning (context_of inside.now) most_turns (statements_of body.now) (for_state variable value s)) known.old coming.old.ahead.items result known.new coming.new.ahead.items }
+{
+    if inside.depth == 0 {
+        return false;
+    }
+    if !coming.step(1) {
+        return false;
+    }
+    note(&mut known.variables, variable, Some(value));
+    add_block(&inside.within(inside.procedures), body, known, coming)
+}
+
+// `call`: the body of a procedure, by what is known of its arguments.
+#[cycle(walk)]
+fn add_call(inside: &Inside<'_>, call: &ProcedureCall, known: &Known, coming: &mut Coming) -> bool
+    ensures { Adds inside.now.checked.now.plan (effect (context_of inside.now) most_turns (call_of call.now)) known.now coming.old.ahead.items result known.now coming.new.ahead.items }
+{
+    let procedures = inside.checked.script().procedures();
+    let number = call.procedure;
+    if number >= inside.procedures || number >= procedures.len() || inside.depth == 0 {
+        return false;
+    }
+    let callee = &procedures[number];
+    let mut entered = Known::nothing();
+    pass(
+        call.arguments.as_slice(),
+        &known.variables,
+        &mut entered.variables,
+    );
+    let body = callee.body.as_slice();
+    add_block(&inside.within(number), body, &mut entered, coming)
+}
+
+// Takes the arguments of a call as known, as far as they are.
+fn pass(arguments: &[Expr], variables: &[Option<u32>], known: &mut [Option<u32>])
+    ensures { (i v : ℕ) → slice_index_or known.new i None ≡ Some v → IsSomeAnd (slice_get (map expression_of arguments.now) i) (λ e. HasValue variables.now e v) }
+{
+    'arguments: for i in 0..known.len() {
+        known[i] = if i < arguments.len() {
+            value_of(&arguments[i], variables)
+        } else {
+            None
+        };
     }
 }
 
@@ -194,7 +451,7 @@ fn known_of(
     variables: &mut [Option<u32>],
     registers: &mut [Option<Address>],
 ) -> Sure
-    ensures { IsSure (context_in checked.now) variables.old registers.old (statement_of statement.now) result variables.new registers.new }
+    ensures { (i : ℕ) → IsSure (context_before checked.now i) variables.old registers.old (statement_of statement.now) result variables.new registers.new }
 {
     match statement {
         Stmt::Put(_) => Sure::NeedsNone,
@@ -308,7 +565,7 @@ fn call_of_crate(action: &CrateAction, known: &[Option<u32>]) -> Option<Command>
 
 // A call at a LAM's address.
 fn call_of_lam(checked: &Checked, action: &LamAction) -> Option<Command>
-    ensures { IfSome result (λ k. (known : List (Option ℕ)) (registers : List (Option At)) → MakesCycle (context_in checked.now) known registers (lam_action_of action.now) k known) }
+    ensures { IfSome result (λ k. (known : List (Option ℕ)) (registers : List (Option At)) → (i : ℕ) → MakesCycle (context_before checked.now i) known registers (lam_action_of action.now) k known) }
 {
     let lams = checked.script().lams();
     if action.lam < lams.len() {

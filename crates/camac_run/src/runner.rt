@@ -19,7 +19,7 @@ ghost use Rattle.camac_run.specs.Sure.{cycle_of};
 ghost use Rattle.camac_run.specs.Transfer.{IsLeft, is_transfer};
 ghost use Rattle.camac_run.specs.Waits.{GoesOnUpTo, waits_in, waits_of};
 
-use crate::ahead::{Ahead, add_following};
+use crate::ahead::{Ahead, Coming, add_following};
 use crate::back::{Back, commands_back};
 use crate::leaving::leave_service;
 use crate::place::Place;
@@ -336,24 +336,24 @@ impl<'a, const V: usize, const DEPTH: usize, const CAP: usize> Runner<'a, V, DEP
         }
     }
 
-    /// The operations that come next, whatever is answered: what the run wants now, and the cycles that surely follow it, `AHEAD` at most. None after
+    /// The operations that come next, whatever is answered: what the run wants now, and what surely follows it, `AHEAD` at most. None after
     /// a wait that was not permitted, and while the run pauses.
     pub fn ahead(&self) -> Ahead
         ensures { IsAhead self.now result.items }
     {
-        let mut ahead = Ahead::new();
+        let mut coming = Coming::nothing();
         let Some(first) = self.wants() else {
-            return ahead;
+            return coming.ahead;
         };
-        ahead.push(first);
+        coming.ahead.push(first);
         let Some(pending) = &self.pending else {
-            return ahead;
+            return coming.ahead;
         };
         if !is_one_cycle(pending) {
-            return ahead;
+            return coming.ahead;
         }
-        add_following(&self.machine, pending, &mut ahead);
-        ahead
+        add_following(&self.machine, pending, &mut coming);
+        coming.ahead
     }
 
     /// What is left of the transfer whose cycle the service in progress waits for; none where it waits for something else.

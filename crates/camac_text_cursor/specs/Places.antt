@@ -15,15 +15,11 @@ IsName at = (x : Text) × (at ≡ Some (kind.Name x))
 -- S3 and S7 at a NUM, S4 and S5 at a NAME
 abbrev pub CaseFits : TextCase → Option TokenKind → Type 0
 CaseFits told.Byte at = ⊥
-CaseFits told.Unexpected at = Unit {0}
-CaseFits told.ZeroDivisor at = Unit {0}
-CaseFits told.LockInProcedure at = Unit {0}
-CaseFits (told.ArgumentCount wanted) at = Unit {0}
 CaseFits (told.Number most) at = IsNumber at
 CaseFits (told.Taken by) at = IsName at
 CaseFits told.KeptTwice at = IsName at
 CaseFits told.CounterKept at = IsName at
 CaseFits told.MeasureKept at = IsName at
 CaseFits (told.Undeclared wanted found) at = IsName at
-CaseFits (told.Limit limit) at = Unit {0}
 CaseFits told.Branch at = IsNumber at
+CaseFits _ at = Unit {0}

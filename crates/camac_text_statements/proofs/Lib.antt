@@ -1,12 +1,7 @@
 pub mod Acts
 pub mod Blocks
-pub mod ActionsRead
-pub mod CallsRead
-pub mod ChoicesRead
 pub mod LoopsRead
 pub mod TransfersRead
 pub mod StatementsRead
 pub mod Bodies
-pub mod LocalCalls
-pub mod LocalTransfers
 pub mod LocalStatements

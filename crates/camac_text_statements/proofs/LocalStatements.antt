@@ -1,6 +1,6 @@
 -- Readers of statements are local.
-use Rattle.std.proofs.Common.{not, ◌≡◌, ℕ, zero, suc, true, false, List, Ok, [], ◌∷◌, Option, Some, None, refl, sym, ◌∙◌}
-use Rattle.camac_lang.specs.Tree.{no_data, into, from, assign, set_register, single, put, choose, choose_else, for_, for_each, while_, locked, Expression, Statement, Condition}
+use Rattle.std.proofs.Common.{not, ◌≡◌, ℕ, zero, suc, true, false, List, Ok, [], ◌∷◌, Option, Some, None, refl, sym, ◌∙◌, Bool, cond}
+use Rattle.camac_lang.specs.Tree.{no_data, into, from, assign, set_register, single, put, choose, choose_else, for_, for_each, while_, locked, Expression, Statement, Condition, Text, address_scan, q_stop, q_repeat, call, crate_call, lam_call}
 use Rattle.camac_lang.specs.View.{block_of}
 use Rattle.camac_lang.specs.declared.word.WordSize.{WordSize}
 use Rattle.camac_lang.specs.declared.word.WordSize.TheVariants.{Full, Short}
@@ -12,28 +12,144 @@ use Rattle.camac_tokens.specs.declared.token.TokenKind.{TokenKind}
 use Rattle.camac_tokens.specs.declared.token.TokenKind.TheVariants as kind
 use Rattle.camac_text_cursor.specs.declared.choice.Choice.TheVariants as choice
 use Rattle.camac_text_cursor.specs.Reading.{spot_here, State, Reader, fail, ◌>>=◌, ◌>>◌, give, peek, advance, check, kind_of, spot_of, many}
-use Rattle.camac_text_cursor.specs.Readers.{begin, is_sign, is_each, expect, expect_sign, any_number, branch_number, function_number, set_name, used_register, used_variable}
+use Rattle.camac_text_cursor.specs.Readers.{begin, is_sign, is_each, expect, expect_sign, any_number, branch_number, function_number, set_name, used_register, used_variable, used_table, procedure_here, called, used_lam}
 use Rattle.camac_text_phrases.specs.Expressions.{expression_at}
-use Rattle.camac_text_statements.specs.Statements.{assignment, register_setting, move_by, move_at, single_action, put_action, else_by, if_statement, single_number, for_ends, each_ends, ends_by, for_statement, while_statement, lock_statement, statement_by, statement_with, is_no_end, block_at}
+use Rattle.camac_text_statements.specs.Statements.{assignment, register_setting, move_by, move_at, single_action, put_action, else_by, if_statement, single_number, for_ends, each_ends, ends_by, for_statement, while_statement, lock_statement, statement_by, statement_with, is_no_end, block_at, switch_by, switch, crate_action, crate_switch, lam_action, lam_switch}
 use Rattle.camac_text_phrases.specs.Conditions.{condition_at}
 use Rattle.camac_text_phrases.specs.declared.keeping.Own.TheVariants as of_loop
 use Rattle.camac_text_phrases.specs.Keeps.{keeps_at}
 use Rattle.camac_text_statements.proofs.Blocks.{Body}
-use Rattle.camac_text_statements.proofs.LocalTransfers.{begins_scan, begins_stop, begins_repeat, begins_call}
 use Rattle.camac_text_statements.proofs.Bodies.{with_progress, block_ok}
 use Rattle.camac_text_phrases.proofs.LocalConditions.{local_condition}
 use Rattle.camac_text_phrases.proofs.LocalKeeps.{local_keeps}
-use Rattle.camac_lang.specs.Tree.{Text}
 use Rattle.camac_lang.specs.declared.word.CrateCall.TheVariants as crate_word
 use Rattle.camac_lang.specs.declared.word.LamCall.TheVariants as lam_word
 use Rattle.camac_text_cursor.specs.declared.choice.Choice.{Choice}
 use Rattle.camac_text_cursor.specs.Expected.{suits}
 use Rattle.camac_text_cursor.proofs.Places.{missed_all, admits, admits_one, IsLocal, Begins, IsHere, local_then, begins_then, begins_ask, begins_peek, begins_spot}
 use Rattle.camac_text_cursor.proofs.Primitives.{local_give, local_fail, begins_fail, begins_advance, begins_check, begins_missed, here_admitted, refusal, local_match, local_wanting, local_test}
-use Rattle.camac_text_cursor.proofs.Local.{begins_begin, local_expect, local_any_number, local_expect_sign, local_branch, local_function, local_set_name, local_used_register, local_used_variable, begins_variable_here, local_closed}
+use Rattle.camac_text_cursor.proofs.Local.{begins_begin, local_expect, local_any_number, local_expect_sign, local_branch, local_function, local_set_name, local_used_register, local_used_variable, begins_variable_here, local_closed, local_used_table, local_procedure_here, begins_called, begins_take, local_used_lam}
 use Rattle.camac_text_phrases.proofs.LocalExpressions.{local_expression}
-use Rattle.camac_text_statements.proofs.LocalCalls.{begins_crate, begins_crate_switch, begins_lam_action, begins_lam_switch}
 use Rattle.camac_lang.specs.declared.spot.Spot.{Spot}
+use Rattle.camac_tokens.specs.declared.token.Keyword.{Keyword}
+use Rattle.camac_text_phrases.specs.Arguments.{arguments_at}
+use Rattle.camac_text_statements.specs.Transfers.{last_bound, table_by, table_at, scan_statement, q_stop_statement, q_repeat_statement, call_statement}
+use Rattle.camac_text_phrases.proofs.LocalArguments.{local_arguments}
+use Rattle.camac_lang.specs.declared.word.CrateCall.{CrateCall}
+use Rattle.camac_lang.specs.declared.word.LamCall.{LamCall}
+
+-- Readers of crate calls and LAM calls are local.
+
+begins_switch_by : (k : Option TokenKind) (s : State) → IsHere s → suits choice.Switch k ≡ true → Begins (switch_by k) s
+begins_switch_by (Some (kind.Keyword word.On)) s here is = begins_take true s here
+begins_switch_by (Some (kind.Keyword word.Off)) s here is = begins_take false s here
+begins_switch_by _ s here is = absurd cc
+
+no_switch_by : (k : Option TokenKind) (s : State) → suits choice.Switch k ≡ false → switch_by k s ≡ (let f : Reader Bool = refusal (choice.Switch ∷ []) None in f s)
+no_switch_by (Some (kind.Keyword word.On)) s free = absurd cc
+no_switch_by (Some (kind.Keyword word.Off)) s free = absurd cc
+no_switch_by _ s free = refl
+
+local_switch : (s : State) → IsLocal switch s
+unfolding switch
+local_switch s =
+    local_wanting (choice.Switch ∷ []) (peek >>= switch_by) s
+    (λ u is. begins_peek switch_by u (begins_switch_by (kind_of u.rest) u (here_admitted (choice.Switch ∷ []) u is) (sym (admits_one choice.Switch (kind_of u.rest)) ∙ is)))
+    (λ u free. no_switch_by (kind_of u.rest) u (sym (admits_one choice.Switch (kind_of u.rest)) ∙ free))
+
+pub begins_crate : (which : CrateCall) (room : ℕ) (spot : Spot) (s : State) → IsHere s → Begins (crate_action which room spot) s
+unfolding crate_action
+begins_crate which room spot s here =
+    begins_then begin (λ _. expression_at room >>= λ c. give (crate_call spot which c)) s (begins_begin s here) (λ _ u.
+    local_then (expression_at room) (λ c. give (crate_call spot which c)) u (local_expression room u) (λ c v. local_give (crate_call spot which c) v))
+
+pub begins_crate_switch : (on off : CrateCall) (room : ℕ) (spot : Spot) (s : State) → IsHere s → Begins (crate_switch on off room spot) s
+unfolding crate_switch
+begins_crate_switch on off room spot s here =
+    begins_then begin (λ _. expression_at room >>= λ c. switch >>= λ is. give (crate_call spot (cond is on off) c)) s (begins_begin s here) (λ _ u.
+    local_then (expression_at room) (λ c. switch >>= λ is. give (crate_call spot (cond is on off) c)) u (local_expression room u) (λ c u.
+    local_then switch (λ is. give (crate_call spot (cond is on off) c)) u (local_switch u) (λ is v. local_give (crate_call spot (cond is on off) c) v)))
+
+pub begins_lam_action : (which : LamCall) (spot : Spot) (s : State) → IsHere s → Begins (lam_action which spot) s
+unfolding lam_action
+begins_lam_action which spot s here =
+    begins_then begin (λ _. used_lam >>= λ l. give (lam_call spot which l)) s (begins_begin s here) (λ _ u.
+    local_then used_lam (λ l. give (lam_call spot which l)) u (local_used_lam u) (λ l v. local_give (lam_call spot which l) v))
+
+pub begins_lam_switch : (spot : Spot) (s : State) → IsHere s → Begins (lam_switch spot) s
+unfolding lam_switch
+begins_lam_switch spot s here =
+    begins_then begin (λ _. used_lam >>= λ l. switch >>= λ is. give (lam_call spot (cond is lam_word.Enable lam_word.Disable) l)) s (begins_begin s here) (λ _ u.
+    local_then used_lam (λ l. switch >>= λ is. give (lam_call spot (cond is lam_word.Enable lam_word.Disable) l)) u (local_used_lam u) (λ l u.
+    local_then switch (λ is. give (lam_call spot (cond is lam_word.Enable lam_word.Disable) l)) u (local_switch u) (λ is v. local_give (lam_call spot (cond is lam_word.Enable lam_word.Disable) l) v)))
+
+-- Readers of transfers and of calls are local.
+
+local_bound : (w : Keyword) (room : ℕ) (s : State) → IsLocal (last_bound w room) s
+unfolding last_bound
+local_bound w room s =
+    local_then (expect w) (λ _. expression_at room >>= λ b. expect word.Tally >> (used_variable >>= λ v. give (b, v))) s (local_expect w s) (λ _ u.
+    local_then (expression_at room) (λ b. expect word.Tally >> (used_variable >>= λ v. give (b, v))) u (local_expression room u) (λ b u.
+    local_then (expect word.Tally) (λ _. used_variable >>= λ v. give (b, v)) u (local_expect word.Tally u) (λ _ u.
+    local_then used_variable (λ v. give (b, v)) u (local_used_variable u) (λ v u. local_give (b, v) u))))
+
+begins_table_by : (k : Option TokenKind) (s : State) → IsHere s → suits (choice.Word word.Table) k ≡ true → Begins (table_by k) s
+begins_table_by (Some (kind.Keyword word.Table)) s here is =
+    begins_then advance (λ _. used_table >>= λ place. give (Some place)) s (begins_advance s here) (λ _ u.
+    local_then used_table (λ place. give (Some place)) u (local_used_table u) (λ place v. local_give (Some place) v))
+begins_table_by _ s here is = absurd cc
+
+no_table_by : (k : Option TokenKind) (s : State) → suits (choice.Word word.Table) k ≡ false → table_by k s ≡ give None (missed_all (choice.Word word.Table ∷ []) s)
+no_table_by (Some (kind.Keyword word.Table)) s free = absurd cc
+no_table_by _ s free = refl
+
+local_table : (s : State) → IsLocal table_at s
+unfolding table_at
+local_table s =
+    local_match (choice.Word word.Table ∷ []) (peek >>= table_by) (give None) s
+    (λ u is. begins_peek table_by u (begins_table_by (kind_of u.rest) u (here_admitted (choice.Word word.Table ∷ []) u is) (sym (admits_one (choice.Word word.Table) (kind_of u.rest)) ∙ is)))
+    (λ u free. no_table_by (kind_of u.rest) u (sym (admits_one (choice.Word word.Table) (kind_of u.rest)) ∙ free)) (local_give None)
+
+-- ---- transfers
+
+pub begins_scan : (room : ℕ) (spot : Spot) (s : State) → IsHere s → Begins (scan_statement room spot) s
+unfolding scan_statement
+begins_scan room spot s here =
+    begins_then begin (λ _. function_number >>= λ f. used_register >>= λ r. used_register >>= λ q. last_bound word.Max room >>= λ end. give (address_scan spot f r q end.0 end.1)) s (begins_begin s here) (λ _ u.
+    local_then function_number (λ f. used_register >>= λ r. used_register >>= λ q. last_bound word.Max room >>= λ end. give (address_scan spot f r q end.0 end.1)) u (local_function u) (λ f u.
+    local_then used_register (λ r. used_register >>= λ q. last_bound word.Max room >>= λ end. give (address_scan spot f r q end.0 end.1)) u (local_used_register u) (λ r u.
+    local_then used_register (λ q. last_bound word.Max room >>= λ end. give (address_scan spot f r q end.0 end.1)) u (local_used_register u) (λ q u.
+    local_then (last_bound word.Max room) (λ end. give (address_scan spot f r q end.0 end.1)) u (local_bound word.Max room u) (λ end u. local_give (address_scan spot f r q end.0 end.1) u)))))
+
+pub begins_stop : (room : ℕ) (spot : Spot) (s : State) → IsHere s → Begins (q_stop_statement room spot) s
+unfolding q_stop_statement
+begins_stop room spot s here =
+    begins_then begin (λ _. function_number >>= λ f. used_register >>= λ r. table_at >>= λ g. last_bound word.Max room >>= λ end. give (q_stop spot f r g end.0 end.1)) s (begins_begin s here) (λ _ u.
+    local_then function_number (λ f. used_register >>= λ r. table_at >>= λ g. last_bound word.Max room >>= λ end. give (q_stop spot f r g end.0 end.1)) u (local_function u) (λ f u.
+    local_then used_register (λ r. table_at >>= λ g. last_bound word.Max room >>= λ end. give (q_stop spot f r g end.0 end.1)) u (local_used_register u) (λ r u.
+    local_then table_at (λ g. last_bound word.Max room >>= λ end. give (q_stop spot f r g end.0 end.1)) u (local_table u) (λ g u.
+    local_then (last_bound word.Max room) (λ end. give (q_stop spot f r g end.0 end.1)) u (local_bound word.Max room u) (λ end u. local_give (q_stop spot f r g end.0 end.1) u)))))
+
+pub begins_repeat : (room : ℕ) (spot : Spot) (s : State) → IsHere s → Begins (q_repeat_statement room spot) s
+unfolding q_repeat_statement
+begins_repeat room spot s here =
+    begins_then begin (λ _. function_number >>= λ f. used_register >>= λ r. table_at >>= λ g. expect word.Max >> (expression_at room >>= λ m. last_bound word.Limit room >>= λ end. give (q_repeat spot f r g m end.0 end.1))) s (begins_begin s here) (λ _ u.
+    local_then function_number (λ f. used_register >>= λ r. table_at >>= λ g. expect word.Max >> (expression_at room >>= λ m. last_bound word.Limit room >>= λ end. give (q_repeat spot f r g m end.0 end.1))) u (local_function u) (λ f u.
+    local_then used_register (λ r. table_at >>= λ g. expect word.Max >> (expression_at room >>= λ m. last_bound word.Limit room >>= λ end. give (q_repeat spot f r g m end.0 end.1))) u (local_used_register u) (λ r u.
+    local_then table_at (λ g. expect word.Max >> (expression_at room >>= λ m. last_bound word.Limit room >>= λ end. give (q_repeat spot f r g m end.0 end.1))) u (local_table u) (λ g u.
+    local_then (expect word.Max) (λ _. expression_at room >>= λ m. last_bound word.Limit room >>= λ end. give (q_repeat spot f r g m end.0 end.1)) u (local_expect word.Max u) (λ _ u.
+    local_then (expression_at room) (λ m. last_bound word.Limit room >>= λ end. give (q_repeat spot f r g m end.0 end.1)) u (local_expression room u) (λ m u.
+    local_then (last_bound word.Limit room) (λ end. give (q_repeat spot f r g m end.0 end.1)) u (local_bound word.Limit room u) (λ end u. local_give (q_repeat spot f r g m end.0 end.1) u)))))))
+
+-- ---- calls
+
+pub begins_call : (room : ℕ) (spot : Spot) (s : State) → IsHere s → Begins (call_statement room spot) s
+unfolding call_statement
+begins_call room spot s here =
+    begins_then begin (λ _. procedure_here >>= λ p. called room p >>= λ n. arguments_at room n >>= λ es. give (call spot p es)) s (begins_begin s here) (λ _ u.
+    local_procedure_here (λ p. called room p >>= λ n. arguments_at room n >>= λ es. give (call spot p es)) u (λ p x v at.
+    begins_then (called room p) (λ n. arguments_at room n >>= λ es. give (call spot p es)) v (begins_called room p x v at) (λ n w.
+    local_then (arguments_at room n) (λ es. give (call spot p es)) w (local_arguments room n w) (λ es z. local_give (call spot p es) z))))
 
 -- what begins a statement
 abbrev statements : List Choice

@@ -1,32 +1,126 @@
 -- What transfers and calls leave.
-use Rattle.std.proofs.Common.{◌≡◌, ℕ, suc, ◌≤◌, ◌<◌, Bool, true, nat_lt, nat_eq, max, length, Option, Some, None, Ok, refl, sym, ap, subst, ◌∙◌, arith}
+use Rattle.std.proofs.Common.{◌≡◌, ℕ, suc, ◌≤◌, ◌<◌, Bool, true, nat_lt, nat_eq, max, length, Option, Some, None, Ok, refl, sym, ap, subst, ◌∙◌, arith, false, cond}
 use Rattle.std.specs.Prelude.{slice_get}
 use Rattle.std.proofs.lemmas.Bool.{lt-ltb, ltb-true}
 use Rattle.camac_lang.specs.Depth.{expression_depth, depth_of}
 use Rattle.camac_lang.specs.Expressions.{Callable, Scope, expression_fits}
 use Rattle.camac_lang.specs.Statements.{table_fits}
 use Rattle.camac_lang.specs.Tests.{each, has, most, is_function, unless_broken}
-use Rattle.camac_lang.specs.Tree.{Expression, Statement, address_scan, q_stop, q_repeat, call}
+use Rattle.camac_lang.specs.Tree.{Expression, Statement, address_scan, q_stop, q_repeat, call, crate_call, lam_call}
 use Rattle.camac_tokens.specs.declared.token.Keyword.{Keyword}
 use Rattle.camac_tokens.specs.declared.token.Keyword.TheVariants as word
 use Rattle.camac_tokens.specs.declared.token.TokenKind.{TokenKind}
 use Rattle.camac_tokens.specs.declared.token.TokenKind.TheVariants as kind
 use Rattle.camac_text_cursor.specs.declared.choice.Choice.TheVariants as choice
 use Rattle.camac_text_cursor.specs.Reading.{State, Reader, ◌>>=◌, ◌>>◌, give, kind_of, missed, past}
-use Rattle.camac_text_cursor.specs.Readers.{begin, expect, function_number, used_register, used_variable, used_table, procedure_here, called}
+use Rattle.camac_text_cursor.specs.Readers.{begin, expect, function_number, used_register, used_variable, used_table, procedure_here, called, used_lam}
 use Rattle.camac_text_phrases.specs.Expressions.{expression_at}
 use Rattle.camac_text_phrases.specs.Arguments.{arguments_at}
 use Rattle.camac_text_statements.specs.Transfers.{last_bound, table_by, table_at, scan_statement, q_stop_statement, q_repeat_statement, call_statement}
-use Rattle.camac_text_statements.specs.Statements.{transfer_by}
-use Rattle.camac_text_cursor.proofs.Steps.{then_ok, ok_is}
+use Rattle.camac_text_statements.specs.Statements.{transfer_by, switch_by, switch, crate_action, crate_switch, lam_action, lam_switch, lam_call_by, crate_call_by}
+use Rattle.camac_text_cursor.proofs.Steps.{then_ok, ok_is, err_no_ok}
 use Rattle.camac_text_cursor.proofs.Moves.{AllFit, Moves, unmoved, moved, then_moves, one_moves, function_ok, expect_ok}
 use Rattle.camac_text_cursor.proofs.Registers.{both, below_le}
-use Rattle.camac_text_cursor.proofs.Uses.{scope_of, same_scope, used_register_ok, used_variable_ok, used_table_ok, procedure_here_ok, called_ok}
+use Rattle.camac_text_cursor.proofs.Uses.{scope_of, same_scope, used_register_ok, used_variable_ok, used_table_ok, procedure_here_ok, called_ok, used_lam_ok}
 use Rattle.camac_text_phrases.proofs.BracketsRead.{expression_ok}
 use Rattle.camac_text_phrases.proofs.ArgumentsRead.{arguments_ok}
 use Rattle.camac_text_statements.proofs.Acts.{begun, begin_ok, Acts, acts}
-use Rattle.camac_text_statements.proofs.CallsRead.{crate_call_is}
 use Rattle.camac_lang.specs.declared.spot.Spot.{Spot}
+use Rattle.camac_lang.specs.declared.word.CrateCall.{CrateCall}
+use Rattle.camac_lang.specs.declared.word.CrateCall.TheVariants as crate_word
+use Rattle.camac_lang.specs.declared.word.LamCall.{LamCall}
+use Rattle.camac_lang.specs.declared.word.LamCall.TheVariants as lam_word
+
+-- What crate calls and LAM calls leave.
+
+switch_is : (k : Option TokenKind) (s : State) (y : Bool × State) → switch_by k s ≡ Ok y → Moves s y.1
+switch_is (Some (kind.Keyword word.On)) s y e = subst (λ (p : Bool × State). Moves s p.1) (ok_is (true, past s) y e) (moved s)
+switch_is (Some (kind.Keyword word.Off)) s y e = subst (λ (p : Bool × State). Moves s p.1) (ok_is (false, past s) y e) (moved s)
+switch_is _ s y e = absurd (err_no_ok _ _ e)
+
+switch_ok : (s : State) (y : Bool × State) → switch s ≡ Ok y → Moves s y.1
+unfolding switch
+switch_ok s y e = switch_is (kind_of s.rest) s y e
+
+-- ---- crate calls
+
+crate_is : (room : ℕ) (s : State) (k : TokenKind) (which : CrateCall) (spot : Spot) (y : Statement × State) → kind_of s.rest ≡ Some k → crate_action which room spot s ≡ Ok y → Acts room s y.0 y.1
+unfolding crate_action
+crate_is room s k which spot y next e =
+    let a = then_ok (begin s) _ y e in
+    let begins = begin_ok s a.0 a.1 in
+    let rest : Reader Statement = expression_at room >>= λ crate_no. give (crate_call spot which crate_no) in
+    let at : rest (begun s) ≡ Ok y = subst (λ (u : State). rest u ≡ Ok y) begins.1 a.2 in
+    let b = then_ok (expression_at room (begun s)) (λ crate_no. give (crate_call spot which crate_no)) y at in
+    let read = expression_ok room (begun s) b.0 b.1 in
+    subst (λ (p : Statement × State). Acts room s p.0 p.1) (ok_is (crate_call spot which b.0.0, b.0.1) y b.2)
+    (acts room s (crate_call spot which b.0.0) k b.0.1 next begins.0 read.moves
+    (λ h. ap (λ (holds : Bool). unless_broken holds (length s.registers)) (read.fits ((moved s).fit h)))
+    read.deep refl)
+
+crate_switch_is : (room : ℕ) (s : State) (k : TokenKind) (on off : CrateCall) (spot : Spot) (y : Statement × State) → kind_of s.rest ≡ Some k → crate_switch on off room spot s ≡ Ok y → Acts room s y.0 y.1
+unfolding crate_switch
+crate_switch_is room s k on off spot y next e =
+    let a = then_ok (begin s) _ y e in
+    let begins = begin_ok s a.0 a.1 in
+    let rest : Reader Statement = expression_at room >>= λ crate_no. switch >>= λ is_on. give (crate_call spot (cond is_on on off) crate_no) in
+    let at : rest (begun s) ≡ Ok y = subst (λ (u : State). rest u ≡ Ok y) begins.1 a.2 in
+    let b = then_ok (expression_at room (begun s)) (λ crate_no. switch >>= λ is_on. give (crate_call spot (cond is_on on off) crate_no)) y at in
+    let read = expression_ok room (begun s) b.0 b.1 in
+    let c = then_ok (switch b.0.1) (λ is_on. give (crate_call spot (cond is_on on off) b.0.0)) y b.2 in
+    let x : Statement = crate_call spot (cond c.0.0 on off) b.0.0 in
+    subst (λ (p : Statement × State). Acts room s p.0 p.1) (ok_is (x, c.0.1) y c.2)
+    (acts room s x k c.0.1 next begins.0 (then_moves (begun s) b.0.1 c.0.1 read.moves (switch_ok b.0.1 c.0 c.1))
+    (λ h. ap (λ (holds : Bool). unless_broken holds (length s.registers)) (read.fits ((moved s).fit h)))
+    read.deep refl)
+
+-- ---- LAM calls
+
+lam_is : (room : ℕ) (s : State) (k : TokenKind) (which : LamCall) (spot : Spot) (y : Statement × State) → kind_of s.rest ≡ Some k → lam_action which spot s ≡ Ok y → Acts room s y.0 y.1
+unfolding lam_action
+lam_is room s k which spot y next e =
+    let a = then_ok (begin s) _ y e in
+    let begins = begin_ok s a.0 a.1 in
+    let rest : Reader Statement = used_lam >>= λ lam. give (lam_call spot which lam) in
+    let at : rest (begun s) ≡ Ok y = subst (λ (u : State). rest u ≡ Ok y) begins.1 a.2 in
+    let b = then_ok (used_lam (begun s)) (λ lam. give (lam_call spot which lam)) y at in
+    let lam = used_lam_ok (begun s) b.0 b.1 in
+    subst (λ (p : Statement × State). Acts room s p.0 p.1) (ok_is (lam_call spot which b.0.0, b.0.1) y b.2)
+    (acts room s (lam_call spot which b.0.0) k b.0.1 next begins.0 lam.1
+    (λ h. ap (λ (holds : Bool). unless_broken holds (length s.registers)) (lt-ltb b.0.0 (length s.lams) lam.0))
+    (omega arith) refl)
+
+lam_switch_is : (room : ℕ) (s : State) (k : TokenKind) (spot : Spot) (y : Statement × State) → kind_of s.rest ≡ Some k → lam_switch spot s ≡ Ok y → Acts room s y.0 y.1
+unfolding lam_switch
+lam_switch_is room s k spot y next e =
+    let a = then_ok (begin s) _ y e in
+    let begins = begin_ok s a.0 a.1 in
+    let rest : Reader Statement = used_lam >>= λ lam. switch >>= λ is_on. give (lam_call spot (cond is_on lam_word.Enable lam_word.Disable) lam) in
+    let at : rest (begun s) ≡ Ok y = subst (λ (u : State). rest u ≡ Ok y) begins.1 a.2 in
+    let b = then_ok (used_lam (begun s)) (λ lam. switch >>= λ is_on. give (lam_call spot (cond is_on lam_word.Enable lam_word.Disable) lam)) y at in
+    let lam = used_lam_ok (begun s) b.0 b.1 in
+    let c = then_ok (switch b.0.1) (λ is_on. give (lam_call spot (cond is_on lam_word.Enable lam_word.Disable) b.0.0)) y b.2 in
+    let x : Statement = lam_call spot (cond c.0.0 lam_word.Enable lam_word.Disable) b.0.0 in
+    subst (λ (p : Statement × State). Acts room s p.0 p.1) (ok_is (x, c.0.1) y c.2)
+    (acts room s x k c.0.1 next begins.0 (then_moves (begun s) b.0.1 c.0.1 lam.1 (switch_ok b.0.1 c.0 c.1))
+    (λ h. ap (λ (holds : Bool). unless_broken holds (length s.registers)) (lt-ltb b.0.0 (length s.lams) lam.0))
+    (omega arith) refl)
+
+lam_call_is : (room : ℕ) (s : State) (spot : Spot) (k : Option TokenKind) (y : Statement × State) → kind_of s.rest ≡ k → lam_call_by spot k s ≡ Ok y → Acts room s y.0 y.1
+lam_call_is room s spot (Some (kind.Keyword word.Cclm)) y next e = lam_switch_is room s (kind.Keyword word.Cclm) spot y next e
+lam_call_is room s spot (Some (kind.Keyword word.Cclc)) y next e = lam_is room s (kind.Keyword word.Cclc) lam_word.Clear spot y next e
+lam_call_is room s spot (Some (kind.Keyword word.Ctlm)) y next e = lam_is room s (kind.Keyword word.Ctlm) lam_word.Test spot y next e
+lam_call_is room s spot _ y next e = absurd (err_no_ok _ _ e)
+
+pub crate_call_is : (room : ℕ) (s : State) (spot : Spot) (k : Option TokenKind) (y : Statement × State) → kind_of s.rest ≡ k → crate_call_by room spot k s ≡ Ok y → Acts room s y.0 y.1
+crate_call_is room s spot (Some (kind.Keyword word.Cccz)) y next e = crate_is room s (kind.Keyword word.Cccz) crate_word.Initialise spot y next e
+crate_call_is room s spot (Some (kind.Keyword word.Cccc)) y next e = crate_is room s (kind.Keyword word.Cccc) crate_word.Clear spot y next e
+crate_call_is room s spot (Some (kind.Keyword word.Ctci)) y next e = crate_is room s (kind.Keyword word.Ctci) crate_word.TestInhibit spot y next e
+crate_call_is room s spot (Some (kind.Keyword word.Ctcd)) y next e = crate_is room s (kind.Keyword word.Ctcd) crate_word.TestDemandOutput spot y next e
+crate_call_is room s spot (Some (kind.Keyword word.Ctgl)) y next e = crate_is room s (kind.Keyword word.Ctgl) crate_word.TestDemand spot y next e
+crate_call_is room s spot (Some (kind.Keyword word.Ccci)) y next e = crate_switch_is room s (kind.Keyword word.Ccci) crate_word.InhibitOn crate_word.InhibitOff spot y next e
+crate_call_is room s spot (Some (kind.Keyword word.Cccd)) y next e = crate_switch_is room s (kind.Keyword word.Cccd) crate_word.DemandOn crate_word.DemandOff spot y next e
+crate_call_is room s spot k y next e = lam_call_is room s spot k y next e
 
 -- ---- what is after some tokens, seen from before them
 

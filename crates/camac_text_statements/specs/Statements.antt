@@ -1,7 +1,7 @@
 -- What is read at each place of a statement.
-use Rattle.std.specs.Prelude.{ℕ, zero, suc, Bool, true, false, List, Option, Some, None, not, if◌then◌else◌}
+use Rattle.std.specs.Prelude.{ℕ, zero, suc, Bool, true, false, List, Option, Some, None, not, if◌then◌else◌, ◌≡◌, [], ◌∷◌, ◌++◌, Result, Ok, Err}
 use Rattle.camac_lang.specs.Tree.{Expression, number, Move, no_data, into, from, Statement, assign, set_register, single, put, crate_call, lam_call, choose, choose_else, for_, for_each, while_, locked, Condition}
-use Rattle.camac_lang.specs.View.{block_of}
+use Rattle.camac_lang.specs.View.{block_of, statement_of}
 use Rattle.camac_lang.specs.declared.word.WordSize.{WordSize}
 use Rattle.camac_lang.specs.declared.word.WordSize.TheVariants.{Full, Short}
 use Rattle.camac_lang.specs.declared.word.CrateCall.{CrateCall}
@@ -16,7 +16,7 @@ use Rattle.camac_tokens.specs.declared.token.TokenKind.TheVariants as kind
 use Rattle.camac_tokens.specs.declared.fault.Limit.TheVariants as limit
 use Rattle.camac_tokens.specs.declared.fault.TextCase.TheVariants as told
 use Rattle.camac_text_cursor.specs.declared.choice.Choice.TheVariants as choice
-use Rattle.camac_text_cursor.specs.Reading.{Reader, ◌>>=◌, ◌>>◌, give, peek, advance, spot_here, miss, missing, fail, unexpected, many, ask, check}
+use Rattle.camac_text_cursor.specs.Reading.{Reader, ◌>>=◌, ◌>>◌, give, peek, advance, spot_here, miss, missing, fail, unexpected, many, ask, check, State, Fault}
 use Rattle.camac_text_cursor.specs.Readers.{begin, is_sign, is_each, expect, expect_sign, any_number, branch_number, function_number, set_name, used_register, used_variable, variable_here, used_lam}
 use Rattle.camac_text_phrases.specs.Expressions.{expression_at}
 use Rattle.camac_text_statements.specs.Transfers.{scan_statement, q_stop_statement, q_repeat_statement, call_statement}
@@ -24,6 +24,10 @@ use Rattle.camac_text_phrases.specs.Conditions.{condition_at}
 use Rattle.camac_text_phrases.specs.declared.keeping.Own.TheVariants as of_loop
 use Rattle.camac_text_phrases.specs.Keeps.{keeps_at}
 use Rattle.camac_lang.specs.declared.spot.Spot.{Spot}
+use Rattle.camac_lang.specs.declared.tree.Stmt.{Stmt}
+use Rattle.camac_tokens.specs.declared.fault.TextFault.{TextFault}
+use Rattle.camac_text_cursor.specs.Parser.{state, FailsWith}
+use Rattle.camac_text_cursor.specs.declared.cursor.Parser.{Parser}
 
 unfoldable pub assignment : ℕ → Spot → Reader Statement
 assignment room spot = do
@@ -260,3 +264,10 @@ block_at (suc room) = do
   body ← many is_no_end (statement_with room (block_at room))
   expect_sign sign.RightBrace
   give body
+
+-- What the functions return that put a statement behind others.
+
+-- The statement that is read comes behind those before it, unless memory was refused.
+abbrev pub Adds : List Stmt → List Stmt → Result (Unit {0}) TextFault → Parser → Result (Statement × State) Fault → Type 0
+Adds before body (Ok nothing) after read = (x : Stmt) × (body ≡ before ++ x ∷ []) × (read ≡ Ok (statement_of x, state after))
+Adds before body (Err fault) after read = FailsWith fault (state after).tried read

@@ -3,8 +3,7 @@
 
 ghost use Rattle.std.specs.Prelude.{◌≡◌};
 ghost use Rattle.camac_lang.specs.View.{move_of};
-ghost use Rattle.camac_text_statements.specs.Adding.{Adds};
-ghost use Rattle.camac_text_statements.specs.Statements.{assignment, register_setting, move_at, single_action, put_action};
+ghost use Rattle.camac_text_statements.specs.Statements.{Adds, assignment, register_setting, move_at, single_action, put_action};
 ghost use Rattle.camac_text_cursor.specs.Parser.{state, Gives};
 
 use camac_lang::{

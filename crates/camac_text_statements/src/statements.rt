@@ -7,9 +7,8 @@ ghost use Rattle.camac_text_cursor.specs.declared.choice.Choice.TheVariants as c
 ghost use Rattle.camac_text_cursor.specs.Reading.{kind_of, spot_of, many, missed};
 ghost use Rattle.camac_tokens.specs.declared.fault.TextCase.TheVariants.{Unexpected};
 ghost use Rattle.camac_tokens.specs.declared.token.TokenKind.TheVariants as kind;
-ghost use Rattle.camac_text_statements.specs.Statements.{is_frequent, nested_by, statement_by, statement_with, is_no_end, block_at};
+ghost use Rattle.camac_text_statements.specs.Statements.{is_frequent, nested_by, statement_by, statement_with, is_no_end, block_at, Adds};
 ghost use Rattle.camac_text_cursor.specs.Parser.{state, Gives};
-ghost use Rattle.camac_text_statements.specs.Adding.{Adds};
 
 use crate::actions::{assignment, put_action, register_setting, single_action};
 use crate::calls::{crate_action, crate_switch, lam_action, lam_switch};

@@ -1,6 +1,6 @@
 -- What an engine has read is what the words' inputs have.
-use Rattle.std.proofs.Common.{◌≡◌, ◌++◌, ℕ, Bool, true, false, List, Option, None, Some, sym, ap, subst, ◌∙◌, append-nil}
-use Rattle.std.specs.Prelude.{Ok, Err}
+use Rattle.std.proofs.Common.{◌≡◌, ◌⊎◌, ◌↔◌, ◌++◌, ℕ, Bool, true, false, List, Option, None, Some, refl, sym, ap, subst, ◌∙◌, inl, inr, append-nil}
+use Rattle.std.specs.Prelude.{Result, Ok, Err, IfOk, IsOk, IsOkAnd}
 use Rattle.std.specs.Io.KnownBytes.{Keeps}
 use Rattle.clap.specs.Words.{Text}
 use Rattle.camac_engines.specs.Found.{Found, HasJudged, HasRead}
@@ -10,7 +10,9 @@ use Rattle.camac_engines.specs.declared.judging.Judged.{Judged}
 use Rattle.camac_engines.specs.declared.plan.PlanSource.{PlanSource}
 use Rattle.camac_engines.specs.declared.plan.PlanSource.TheVariants as source
 use Rattle.camac_engines.specs.declared.reading.TheConstants.{TEXT_LIMIT}
+use Rattle.camac_tool.specs.Apart.{Differs, IsApart, IsApartFrom, IsOther, Opens, OpensPlan, PlanDiffers, is_same, name_of}
 use Rattle.camac_tool.specs.Input.{IsFoundIn, IsInputOf, IsJudgedIn, IsPlanIn, IsSourceOf, IsTextOf, is_sample}
+use Rattle.camac_tool.specs.declared.host.FileId.{FileId}
 use Rattle.camac_word.specs.Watched.{inner_of}
 use Rattle.camac_word.specs.declared.watched.Watched.{Watched}
 
@@ -52,3 +54,33 @@ module _ (bytes_of : Text → Option (List ℕ)) (plan script : Text) {I : Type 
 
   pub judged_read : (j : Judged) → HasJudged left old new (left (inner_of w)) t j → IsJudgedIn bytes_of plan script j
   judged_read j h = (h.0, found_read h.0 h.1, h.2)
+
+-- EVENTS is apart from the words' files where it is from those that their inputs read
+module _ (finds : Text → Option FileId → Type 0) where
+  other_of : (reads : FileId → Type 0) (word : Text) (file : FileId) → Opens finds reads word → Differs reads file → IsOther finds (name_of word) file
+  other_of reads word file opens other = (other.0, opens other.0 other.1, other.2)
+
+  plan_of : {I : Type 0} (reads : I → FileId → Type 0) (plan : Text) (input : Option I) (file : FileId) → OpensPlan finds reads plan input → PlanDiffers reads input file
+      → (is_sample plan ≡ true) ⊎ IsOther finds (name_of plan) file
+  plan_of reads plan None file sample other = inl sample
+  plan_of reads plan (Some input) file opens other = inr (other_of (reads input) plan file opens other)
+
+  pub apart_from : {I : Type 0} (reads : I → FileId → Type 0) (plan script answers events : Text) (p : Option I) (s a : I) → OpensPlan finds reads plan p → Opens finds (reads s) script
+      → Opens finds (reads a) answers → IsApart finds events (λ file. PlanDiffers reads p file × Differs (reads s) file × Differs (reads a) file) → IsApartFrom finds plan script answers events
+  apart_from reads plan script answers events p s a of_plan of_script of_answers (inl none) = inl none
+  apart_from reads plan script answers events p s a of_plan of_script of_answers (inr (file, found, outputs, others)) =
+      inr (file, found, outputs, (plan_of reads plan p file of_plan others.0, other_of (reads s) script file of_script others.1, other_of (reads a) answers file of_answers others.2))
+
+-- what the system found or read is another file than this, where the two were compared
+pub other_was : {F : Type 0} (Is : FileId → Type 0) (file : FileId) (other : Result FileId F) → IsOkAnd other (λ o. is_same file o ≡ false) → IfOk other Is → Differs Is file
+other_was Is file (Ok o) differs is = (o, is, differs)
+other_was Is file (Err e) differs is = absurd differs
+
+pub other_is : {T E F : Type 0} (Is : FileId → Type 0) (file : FileId) (r : Result T E) (other : Result FileId F) → (IsOk r ↔ IsOkAnd other (λ o. is_same file o ≡ false)) → IfOk other Is
+    → IfOk r (λ _. Differs Is file)
+other_is Is file (Err e) other says is = tt
+other_is Is file (Ok x) other says is = other_was Is file other (says.0 refl) is
+
+pub if_ok : {T E : Type 0} {A B : Type 0} (r : Result T E) → (A → B) → IfOk r (λ _. A) → IfOk r (λ _. B)
+if_ok (Ok x) f a = f a
+if_ok (Err e) f a = tt

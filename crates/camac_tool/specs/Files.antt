@@ -1,16 +1,13 @@
 -- What is known of the files of the system, and how EVENTS is opened.
-use Rattle.std.specs.Prelude.{◌≡◌, ◌⊎◌, ◌&&◌, ◌||◌, ◌<◌, ℕ, Bool, true, false, List, Option, Some, None, Result, Ok, Err, nat_eq, bit_and}
+use Rattle.std.specs.Prelude.{◌≡◌, ◌⊎◌, ◌||◌, ◌<◌, ℕ, Bool, true, false, List, Option, Some, None, Result, Ok, Err, nat_eq, bit_and}
 use Rattle.std.specs.List.{starts_with}
 use Rattle.std.specs.Fs.{IsFile, file_type, metadata_len, metadata_mode, new_options, with_create, with_write}
 use Rattle.std.specs.declared.fs.options.OpenOptions.{OpenOptions}
 use Rattle.std.specs.declared.fs.attrs.Metadata.{Metadata}
 use Rattle.camac_event.specs.Spelling.{header}
 use Rattle.camac_event.specs.declared.event.Version.TheVariants.{One, Two}
-use Rattle.camac_engines.specs.declared.fault.ToolFault.{ToolFault}
-use Rattle.camac_engines.specs.declared.fault.ToolFault.TheVariants.{Write}
 use Rattle.camac_tool.specs.declared.host.Earlier.{Earlier}
 use Rattle.camac_tool.specs.declared.host.Earlier.TheVariants.{Emptied, Refused}
-use Rattle.camac_tool.specs.declared.host.FileId.{FileId}
 use Rattle.camac_tool.specs.declared.system.Input.{Input}
 use Rattle.camac_tool.specs.declared.system.Input.TheVariants.{Standard, File}
 
@@ -22,11 +19,6 @@ left_in standard file (File reader) = file reader
 abbrev pub is_standard : {S F : Type 0} → Input S F → Bool
 is_standard (Standard reader) = true
 is_standard (File reader) = false
-
--- one file has one device and one number there; a file of which nothing is known may be any
-abbrev pub SaysSame : {E : Type 0} → FileId → Result FileId E → Result Bool ToolFault → Type 0
-SaysSame file (Ok other) said = said ≡ Ok (nat_eq file.device other.device && nat_eq file.number other.number)
-SaysSame file (Err why) said = said ≡ Err Write
 
 abbrev pub IsCharacterDevice : Metadata → Type 0
 IsCharacterDevice about = bit_and (metadata_mode about) 0o170000 ≡ 0o020000

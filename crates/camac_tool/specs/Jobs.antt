@@ -28,9 +28,11 @@ use Rattle.camac_engines.specs.declared.outcome.Outcome.{Outcome}
 use Rattle.camac_engines.specs.declared.reading.TheConstants.{EVENTS_LIMIT}
 use Rattle.camac_tool_words.specs.declared.words.Job.{Job}
 use Rattle.camac_tool_words.specs.declared.words.Job.TheVariants as job
+use Rattle.camac_tool.specs.Apart.{IsApartFrom}
 use Rattle.camac_tool.specs.Devices.{HasBeginning}
 use Rattle.camac_tool.specs.Input.{IsFoundIn, IsJudgedIn, IsPlanOf, IsTextOf}
 use Rattle.camac_tool.specs.Run.{RunsJudged}
+use Rattle.camac_tool.specs.declared.host.FileId.{FileId}
 use Rattle.camac_tool.specs.declared.program.Done.{Done}
 use Rattle.camac_tool.specs.declared.program.Done.TheVariants.{Answered, Misused, NoCode}
 use Rattle.camac_tool.specs.declared.program.Question.{Question}
@@ -109,12 +111,12 @@ module _ (bytes_of : Text → Option (List ℕ)) where
   Replies (question.Response plan script every within) = Responds plan.now script.now (map (λ w. w.now) every.items) (map (λ w. w.now) within.items)
   Replies (question.Events file) = Tells (EventsTell file.now)
 
-  module _ (plan script answers : Text) (telling : Telling) where
-    -- what was found of a plan and a script is run on these answers, with some event file
+  module _ (finds : Text → Option FileId → Type 0) (plan script answers events : Text) (telling : Telling) where
+    -- what was found of a plan and a script is run on these answers, with some event file, and EVENTS is none of the inputs
     abbrev pub RunTells : (o p : Option (List ℕ)) → Result Outcome ToolFault → Type 0
     RunTells o p r =
-        (j : Judged) × IsJudgedIn bytes_of plan script j
-        × ((u v e f : Option (List ℕ)) × Keeps (bytes_of answers) u × RunsJudged (gathers telling) telling j u v (record { listing = o; events = e }) (record { listing = p; events = f }) r)
+        IsApartFrom finds plan script answers events × ((j : Judged) × IsJudgedIn bytes_of plan script j
+        × ((u v e f : Option (List ℕ)) × Keeps (bytes_of answers) u × RunsJudged (gathers telling) telling j u v (record { listing = o; events = e }) (record { listing = p; events = f }) r))
 
     abbrev pub RunsTold : (o p : Option (List ℕ)) → Result Done ToolFault → Type 0
     RunsTold o p (Ok (Answered outcome)) = RunTells o p (Ok outcome)
@@ -122,20 +124,20 @@ module _ (bytes_of : Text → Option (List ℕ)) where
     RunsTold o p (Err fault) = Keeps o p ⊎ RunTells o p (Err fault)
 
   -- the answers of a live run are standard input
-  abbrev pub DoesJob : Job → (o p : Option (List ℕ)) → Result Done ToolFault → Type 0
-  DoesJob (job.Plan plan) = HandsOn (Tells (PlanTells plan.now plan_ask.Lines))
-  DoesJob (job.Commands plan) = HandsOn (Tells (PlanTells plan.now plan_ask.Commands))
-  DoesJob (job.ExplainPlan plan) = HandsOn (Tells (PlanTells plan.now plan_ask.Explain))
-  DoesJob (job.ExplainRule code) = ExplainsRule code.now
-  DoesJob (job.Check plan script) = HandsOn (Tells (ScriptTells plan.now script.now ask.Check))
-  DoesJob (job.Explain plan script) = HandsOn (Tells (ScriptTells plan.now script.now ask.Explain))
-  DoesJob (job.ExplainBounds plan script) = HandsOn (Tells (ScriptTells plan.now script.now ask.ExplainBounds))
-  DoesJob (job.ExplainAt line column turns plan script) = HandsOn (Tells (ScriptTells plan.now script.now (ask.ExplainAt line column turns.items)))
-  DoesJob (job.Bounds plan script) = HandsOn (Tells (ScriptTells plan.now script.now ask.Bounds))
-  DoesJob (job.Costs plan script) = HandsOn (Tells (ScriptTells plan.now script.now ask.Costs))
-  DoesJob (job.Tell plan script) = HandsOn (Tells (ScriptTells plan.now script.now ask.Tell))
-  DoesJob (job.Response plan script every within) =
+  abbrev pub DoesJob : (finds : Text → Option FileId → Type 0) → Job → (o p : Option (List ℕ)) → Result Done ToolFault → Type 0
+  DoesJob finds (job.Plan plan) = HandsOn (Tells (PlanTells plan.now plan_ask.Lines))
+  DoesJob finds (job.Commands plan) = HandsOn (Tells (PlanTells plan.now plan_ask.Commands))
+  DoesJob finds (job.ExplainPlan plan) = HandsOn (Tells (PlanTells plan.now plan_ask.Explain))
+  DoesJob finds (job.ExplainRule code) = ExplainsRule code.now
+  DoesJob finds (job.Check plan script) = HandsOn (Tells (ScriptTells plan.now script.now ask.Check))
+  DoesJob finds (job.Explain plan script) = HandsOn (Tells (ScriptTells plan.now script.now ask.Explain))
+  DoesJob finds (job.ExplainBounds plan script) = HandsOn (Tells (ScriptTells plan.now script.now ask.ExplainBounds))
+  DoesJob finds (job.ExplainAt line column turns plan script) = HandsOn (Tells (ScriptTells plan.now script.now (ask.ExplainAt line column turns.items)))
+  DoesJob finds (job.Bounds plan script) = HandsOn (Tells (ScriptTells plan.now script.now ask.Bounds))
+  DoesJob finds (job.Costs plan script) = HandsOn (Tells (ScriptTells plan.now script.now ask.Costs))
+  DoesJob finds (job.Tell plan script) = HandsOn (Tells (ScriptTells plan.now script.now ask.Tell))
+  DoesJob finds (job.Response plan script every within) =
       HandsOn (Responds plan.now script.now (map (λ w. w.now) every.items) (map (λ w. w.now) within.items))
-  DoesJob (job.Events file) = HandsOn (Tells (EventsTell file.now))
-  DoesJob (job.Run plan script answers events) = HandsOn (RunsTold plan.now script.now answers.now Listing)
-  DoesJob (job.Drive plan script events) = λ o p. OrWriteFault (RunsTold plan.now script.now (codes "@in") Requests o p)
+  DoesJob finds (job.Events file) = HandsOn (Tells (EventsTell file.now))
+  DoesJob finds (job.Run plan script answers events) = HandsOn (RunsTold finds plan.now script.now answers.now events.now Listing)
+  DoesJob finds (job.Drive plan script events) = λ o p. OrWriteFault (RunsTold finds plan.now script.now (codes "@in") events.now Requests o p)

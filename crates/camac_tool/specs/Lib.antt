@@ -2,6 +2,7 @@ pub mod World
 pub mod Run
 pub mod Headline
 pub mod Input
+pub mod Apart
 pub mod Jobs
 pub mod Status
 pub mod Gathered

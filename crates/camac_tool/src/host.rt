@@ -1,7 +1,9 @@
 // What the program wants of its system: the inputs that words name, and EVENTS.
 
-ghost use Rattle.std.specs.Prelude.{IfOk, List, ℕ, Option};
+ghost use Rattle.std.specs.Prelude.{IfOk, List, ℕ, None, Option, Some, ⊤};
 ghost use Rattle.std.specs.Io.KnownBytes.{Keeps};
+ghost use Rattle.camac_tool.specs.Apart.{Opens};
+ghost use Rattle.camac_tool.specs.declared.host.FileId.{FileId};
 
 use std::io;
 use std::io::{Read, Write};
@@ -29,14 +31,21 @@ pub trait Host {
     type Events: Write + Drop;
 
     /// Of each word the bytes of the input that it names, where they are known.
-    ghost bytes_of: { Self → List ℕ → Option (List ℕ) };
+    ghost bytes_of: { Self → List ℕ → Option (List ℕ) } = { λ _ _. None };
+
+    /// Which file was found under a name: none, if there is none that can be the same as another.
+    ghost finds: { Self → List ℕ → Option FileId → Type 0 } = { λ _ _ _. ⊤ };
+
+    /// Which file an input reads.
+    ghost reads: { Self → Self.Input → FileId → Type 0 } = { λ _ _ _. ⊤ };
 
     /// Takes the places of standard streams that are closed, for as long as the result lives.
     fn hold_places(&self) -> io::Result<Self::Places>;
 
     /// The input that a word names: `@in` is standard input, and any other word a file.
     fn open(&self, word: &str) -> io::Result<Self::Input>
-        ensures { IfOk result (λ input. Keeps (bytes_of self.now word.now) (Self.Input.remaining input)) };
+        ensures bytes { IfOk result (λ input. Keeps (bytes_of self.now word.now) (Self.Input.remaining input)) }
+        ensures file { IfOk result (λ input. Opens (finds self.now) (reads self.now input) word.now) };
 
     /// Opens EVENTS, and empties it.
     fn make(&self, name: &str, earlier: Earlier) -> io::Result<Self::Events>;
@@ -45,11 +54,14 @@ pub trait Host {
     fn sync(&self, events: &Self::Events) -> io::Result<()>;
 
     /// The file of a name, if there is one that can be the same as another.
-    fn find(&self, name: &str) -> io::Result<Option<FileId>>;
+    fn find(&self, name: &str) -> io::Result<Option<FileId>>
+        ensures { IfOk result (finds self.now name.now) };
 
     /// The file of a name.
-    fn id_at(&self, name: &str) -> io::Result<FileId>;
+    fn id_at(&self, name: &str) -> io::Result<FileId>
+        ensures { IfOk result (λ file. finds self.now name.now (Some file)) };
 
     /// The file that an input reads.
-    fn id_of(&self, input: &Self::Input) -> io::Result<FileId>;
+    fn id_of(&self, input: &Self::Input) -> io::Result<FileId>
+        ensures { IfOk result (reads self.now input.now) };
 }

@@ -2,6 +2,7 @@
 
 ghost use Rattle.std.specs.Prelude.{◌≡◌, IfOk, IfErr};
 ghost use Rattle.std.specs.Io.KnownBytes.{Keeps};
+ghost use Rattle.camac_tool.specs.Apart.{Opens, OpensPlan};
 ghost use Rattle.camac_tool.specs.Input.{IsInputOf, IsSourceOf, is_sample};
 ghost use Rattle.camac_engines.specs.declared.fault.ToolFault.TheVariants.{Read as read-fault};
 
@@ -17,6 +18,7 @@ pub fn open<'f, 'a, H: Host>(
     word: &'a str,
 ) -> Result<Named<'f, 'a, H::Input>, ToolFault>
     ensures bytes { IfOk result (λ input. Keeps (H.bytes_of host.now word.now) (H.Input.remaining input.device)) }
+    ensures file { IfOk result (λ input. Opens (H.finds host.now) (H.reads host.now input.device) word.now) }
     ensures fault { IfErr result (λ fault. fault ≡ read-fault) }
 {
     match host.open(word) {
@@ -32,6 +34,7 @@ pub fn open_plan<'f, 'a, H: Host>(
     word: &'a str,
 ) -> Result<Option<Named<'f, 'a, H::Input>>, ToolFault>
     ensures input { IfOk result (λ input. IsInputOf (λ i. H.Input.remaining i.device) (H.bytes_of host.now word.now) (is_sample word.now) input) }
+    ensures file { IfOk result (λ input. OpensPlan (H.finds host.now) (λ i. H.reads host.now i.device) word.now input) }
     ensures fault { IfErr result (λ fault. fault ≡ read-fault) }
 {
     if word == "@sample" {

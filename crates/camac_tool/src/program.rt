@@ -4,6 +4,7 @@ ghost use Rattle.std.specs.Prelude.{◌≡◌, IfOk, codes, map, string_bytes};
 ghost use Rattle.std.specs.Io.KnownBytes.{Keeps};
 ghost use Rattle.camac_play.specs.declared.telling.Telling.TheVariants.{Listing, Requests};
 ghost use Rattle.clap.specs.Words.{kind_of};
+ghost use Rattle.camac_tool.specs.Apart.{IsApartFrom};
 ghost use Rattle.camac_tool.specs.Input.{IsInputOf, is_sample};
 ghost use Rattle.camac_tool.specs.Jobs.{DoesJob, EventsTell, ExplainsRule, HandsOn, IsSettled, OrWriteFault, PlanTells, Replies, Responds, RunsTold, ScriptTells, Tells};
 ghost use Rattle.camac_tool.specs.Status.{Ends, EndsAs, EndsJob, EndsMisuse, EndsUsage};
@@ -52,7 +53,7 @@ pub fn exit_status<R: Host + Print + Eprint + AllocGlobal, W: Write + Drop>(
     words: &[String],
     out: W,
 ) -> (u8, W)
-    ensures { Ends (R.bytes_of rt.now) (map string_bytes words.now) (W.contents out) (W.contents result.1) result.0 }
+    ensures { Ends (R.bytes_of rt.now) (R.finds rt.now) (map string_bytes words.now) (W.contents out) (W.contents result.1) result.0 }
 {
     let failure = Failure::none();
     let tool = Tool {
@@ -113,7 +114,7 @@ struct Tool<'r, 'f, 'a, R> {
 
 impl<'r, 'f, 'a, R: Host + Print + Eprint + AllocGlobal> Tool<'r, 'f, 'a, R> {
     fn serve<W: Write + Drop>(&self, job: Job<'a>, out: W) -> (u8, W)
-        ensures { EndsJob (R.bytes_of self.now.rt.now) job.entry (W.contents out) (W.contents result.1) result.0 }
+        ensures { EndsJob (R.bytes_of self.now.rt.now) (R.finds self.now.rt.now) job.entry (W.contents out) (W.contents result.1) result.0 }
     {
         let is_swapped = is_swapped(&job);
         let (done, out) = self.do_job(job, Named::new(out, STANDARD_OUTPUT, self.failure));
@@ -124,7 +125,7 @@ impl<'r, 'f, 'a, R: Host + Print + Eprint + AllocGlobal> Tool<'r, 'f, 'a, R> {
     }
 
     fn do_job<W: Write + Drop>(&self, job: Job<'a>, out: W) -> (Result<Done<'a>, ToolFault>, W)
-        ensures { DoesJob (R.bytes_of self.now.rt.now) job.entry (W.contents out) (W.contents result.1) result.0 }
+        ensures { DoesJob (R.bytes_of self.now.rt.now) (R.finds self.now.rt.now) job.entry (W.contents out) (W.contents result.1) result.0 }
     {
         match job {
             Job::Plan(plan) => self.gather(Question::Plan(PlanAsk::Lines, plan), out),
@@ -299,7 +300,7 @@ impl<'r, 'f, 'a, R: Host + Print + Eprint + AllocGlobal> Tool<'r, 'f, 'a, R> {
         events: &'a str,
         out: W,
     ) -> (Result<Done<'a>, ToolFault>, W)
-        ensures { HandsOn (RunsTold (R.bytes_of self.now.rt.now) plan.now script.now answers.now Listing) (W.contents out) (W.contents result.1) result.0 }
+        ensures { HandsOn (RunsTold (R.bytes_of self.now.rt.now) (R.finds self.now.rt.now) plan.now script.now answers.now events.now Listing) (W.contents out) (W.contents result.1) result.0 }
     {
         let (plan, script, lines) = match self.open_run(plan, script, answers, events) {
             Ok(inputs) => inputs,
@@ -328,7 +329,7 @@ impl<'r, 'f, 'a, R: Host + Print + Eprint + AllocGlobal> Tool<'r, 'f, 'a, R> {
         events: &'a str,
         out: W,
     ) -> (Result<Done<'a>, ToolFault>, W)
-        ensures { OrWriteFault (RunsTold (R.bytes_of self.now.rt.now) plan.now script.now (codes "@in") Requests (W.contents out) (W.contents result.1)) result.0 }
+        ensures { OrWriteFault (RunsTold (R.bytes_of self.now.rt.now) (R.finds self.now.rt.now) plan.now script.now (codes "@in") events.now Requests (W.contents out) (W.contents result.1)) result.0 }
     {
         let (plan, script, answers) = match self.open_run(plan, script, "@in", events) {
             Ok(inputs) => inputs,
@@ -366,18 +367,12 @@ impl<'r, 'f, 'a, R: Host + Print + Eprint + AllocGlobal> Tool<'r, 'f, 'a, R> {
         ensures plan { IfOk result (λ inputs. IsInputOf (λ i. R.Input.remaining i.device) (R.bytes_of self.now.rt.now plan.now) (is_sample plan.now) inputs.0) }
         ensures script { IfOk result (λ inputs. Keeps (R.bytes_of self.now.rt.now script.now) (R.Input.remaining inputs.1.device)) }
         ensures answers { IfOk result (λ inputs. Keeps (R.bytes_of self.now.rt.now answers.now) (R.Input.remaining inputs.2.device)) }
+        ensures apart { IfOk result (λ _. IsApartFrom (R.finds self.now.rt.now) plan.now script.now answers.now events.now) }
     {
         let plan = open_plan(self.rt, self.failure, plan)?;
         let script = open(self.rt, self.failure, script)?;
         let answers = open(self.rt, self.failure, answers)?;
-        keep_apart(
-            self.rt,
-            self.failure,
-            events,
-            plan.as_ref(),
-            &script,
-            &answers,
-        )?;
+        keep_apart(self.rt, self.failure, events, &plan, &script, &answers)?;
         Ok((plan, script, answers))
     }
 

@@ -1,6 +1,6 @@
 // The files and the standard input of the system, over std, of which no clause says what they hold.
 
-ghost use Rattle.std.specs.Prelude.{◌≡◌, ◌↔◌, None, IfOk, IsOk, IsTrue, codes};
+ghost use Rattle.std.specs.Prelude.{◌≡◌, ◌↔◌, IfOk, IsOk, IsTrue, codes};
 ghost use Rattle.std.specs.Io.{ReadsAtMost};
 ghost use Rattle.std.specs.Io.KnownBytes.{ReadConsumes};
 ghost use Rattle.std.specs.Str.{bytes_eq};
@@ -38,8 +38,6 @@ impl<R: Files + StandardInput> Host for R {
     type Input = Input<R::Reader, R::File>;
 
     type Events = R::File;
-
-    ghost bytes_of = { λ _ _. None };
 
     // A folder has the places, so that no file that is opened later is read or written for one of them. It can be opened, but each read and
     // each write of it fails.

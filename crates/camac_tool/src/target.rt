@@ -1,7 +1,7 @@
 // The event file of a run. Nothing but an older event file is lost by it, and no run ends well before it is on the disk.
 
-ghost use Rattle.std.specs.Prelude.{◌≡◌, None, IfErr};
-ghost use Rattle.camac_tool.specs.Files.{SaysSame};
+ghost use Rattle.std.specs.Prelude.{◌≡◌, ◌↔◌, false, None, IfErr, IfOk, IsOk, IsOkAnd};
+ghost use Rattle.camac_tool.specs.Apart.{Differs, DiffersFromOutputs, IsApart, PlanDiffers, is_same};
 ghost use Rattle.camac_engines.specs.declared.fault.ToolFault.TheVariants.{Write as write-fault};
 
 use crate::failure::{Failure, Named};
@@ -10,53 +10,84 @@ use camac_engines::ToolFault;
 use std::io;
 use std::io::{Error, Write};
 
-/// The names under which the system has the files behind the standard outputs, and why EVENTS may not be one.
-const STANDARD_OUTPUTS: [(&str, &str); 2] = [
-    ("/proc/self/fd/1", "it is standard output"),
-    ("/proc/self/fd/2", "it is standard error"),
-];
+/// The names under which the system has the files behind standard output and standard error.
+const OUTPUT: &str = "/proc/self/fd/1";
+
+const ERRORS: &str = "/proc/self/fd/2";
 
 /// Refuses EVENTS where it is the same file as one of the inputs, as standard output or as standard error.
 pub fn keep_apart<'a, H: Host>(
     host: &H,
     failure: &Failure<'a>,
     name: &'a str,
-    plan: Option<&Named<'_, 'a, H::Input>>,
+    plan: &Option<Named<'_, 'a, H::Input>>,
     script: &Named<'_, 'a, H::Input>,
     answers: &Named<'_, 'a, H::Input>,
 ) -> Result<(), ToolFault>
-    ensures { IfErr result (λ fault. fault ≡ write-fault) }
+    ensures apart { IfOk result (λ _. IsApart (H.finds host.now) name.now (λ file.
+        PlanDiffers (λ i. H.reads host.now i.device) plan.now file × Differs (H.reads host.now script.now.device) file × Differs (H.reads host.now answers.now.device) file)) }
+    ensures fault { IfErr result (λ fault. fault ≡ write-fault) }
 {
-    let there = match host.find(name) {
-        Ok(Some(there)) => there,
+    let file = match host.find(name) {
+        Ok(Some(file)) => file,
         Ok(None) => return Ok(()),
         Err(why) => return Err(failure.write(name, why)),
     };
-    for (output, refusal) in STANDARD_OUTPUTS {
-        if is_same(there, failure, output, host.id_at(output))? {
-            return Err(failure.write(name, Error::other(refusal)));
-        }
+    let there = There {
+        file,
+        name,
+        failure,
+    };
+    there.is_no_output(host)?;
+    there.is_not(host, script)?;
+    there.is_not(host, answers)?;
+    match plan {
+        Some(plan) => there.is_not(host, plan),
+        None => Ok(()),
     }
-    for input in [plan, Some(script), Some(answers)].into_iter().flatten() {
-        if is_same(there, failure, input.name, host.id_of(&input.device))? {
-            return Err(failure.write(name, Error::other("it is an input")));
-        }
-    }
-    Ok(())
 }
 
-// A file of which the system says nothing may be any file.
-fn is_same<'a>(
+// The file that is there under the name of EVENTS.
+#[derive(Drop)]
+struct There<'f, 'a> {
     file: FileId,
-    failure: &Failure<'a>,
     name: &'a str,
-    other: io::Result<FileId>,
-) -> Result<bool, ToolFault>
-    ensures { SaysSame file other result }
-{
-    match other {
-        Ok(other) => Ok(file == other),
-        Err(why) => Err(failure.write(name, why)),
+    failure: &'f Failure<'a>,
+}
+
+impl<'a> There<'_, 'a> {
+    fn is_no_output<H: Host>(&self, host: &H) -> Result<(), ToolFault>
+        ensures outputs { IfOk result (λ _. DiffersFromOutputs (H.finds host.now) self.now.file) }
+        ensures fault { IfErr result (λ fault. fault ≡ write-fault) }
+    {
+        self.differs(OUTPUT, host.id_at(OUTPUT), "it is standard output")?;
+        self.differs(ERRORS, host.id_at(ERRORS), "it is standard error")
+    }
+
+    fn is_not<H: Host>(&self, host: &H, input: &Named<'_, 'a, H::Input>) -> Result<(), ToolFault>
+        ensures input { IfOk result (λ _. Differs (H.reads host.now input.now.device) self.now.file) }
+        ensures fault { IfErr result (λ fault. fault ≡ write-fault) }
+    {
+        self.differs(input.name, host.id_of(&input.device), "it is an input")
+    }
+
+    // Refuses the other file. One of which the system says nothing may be any file.
+    fn differs(
+        &self,
+        name: &'a str,
+        other: io::Result<FileId>,
+        refusal: &'static str,
+    ) -> Result<(), ToolFault>
+        ensures other { IsOk result ↔ IsOkAnd other (λ other. is_same self.now.file other ≡ false) }
+        ensures fault { IfErr result (λ fault. fault ≡ write-fault) }
+    {
+        match other {
+            Ok(other) if self.file == other => {
+                Err(self.failure.write(self.name, Error::other(refusal)))
+            }
+            Ok(_) => Ok(()),
+            Err(why) => Err(self.failure.write(name, why)),
+        }
     }
 }
 

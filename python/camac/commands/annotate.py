@@ -4,7 +4,7 @@ import itertools
 import tempfile
 from typing import Any, Iterator, Mapping, Optional, Tuple
 
-from camac.commands.running import DONE, REFUSED, add_every, add_overwrite, read_every
+from camac.commands.running import DONE, REFUSED, add_every, add_overwrite
 from camac.contradictions import Contradictions, plan_of
 from camac.drive import STATUS, File, Refused
 from camac.output import anything, made_like, output
@@ -24,11 +24,7 @@ def add_to(commands: Any) -> None:
     parser.add_argument("-o", "--out", metavar="TEXT", help="the file to write; else standard output")
     add_every(parser)
     add_overwrite(parser)
-    parser.set_defaults(do=make_annotated, read=read)
-
-
-def read(args: argparse.Namespace, parser: argparse.ArgumentParser) -> None:
-    args.every = read_every(args.every, parser)
+    parser.set_defaults(do=make_annotated)
 
 
 def make_annotated(args: argparse.Namespace) -> int:
@@ -44,11 +40,10 @@ def make_annotated(args: argparse.Namespace) -> int:
 def annotate(
     plan: File, script: File, answers: File, program: Optional[File] = None, every: Optional[Mapping[str, int]] = None
 ) -> Iterator[Tuple[str, Optional[Item]]]:
-    """Plays a script against answers, and yields a line for each operation, with the operation: the number of its answer line, that line, and what the
-    program lists. Cycles and locks are further right than the demands, whose services are counted. An answer that ended the run is beside
-    the last line. The number of answer lines that were not used follows it, and what contradicts the plan, and the rates in `every`.
-
-    Raises OSError if a file cannot be read, and Refused, UsageFault and ProgramFault as `camac.run`."""
+    """Plays a script against answers, and yields a line for each operation, with the operation: the number of its answer line, that line, and what
+    the program lists. Cycles and locks are further right than the demands, whose services are counted. An answer that ended the run is beside the
+    last line. The number of answer lines that were not used follows it, and what contradicts the plan, and the rates in `every`. Raises OSError if a
+    file cannot be read, and Refused, UsageFault and ProgramFault as `camac.run`."""
     seen = Contradictions(response(plan, script, every, program) if every else ())
     with open(answers, "rb") as file, tempfile.NamedTemporaryFile(suffix=".events") as events:
         numbers, services = itertools.count(1), 0

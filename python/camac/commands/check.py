@@ -7,6 +7,7 @@ from camac import judge
 from camac.commands.running import STATUS, main, refuse_pipes
 from camac.output import say
 from camac.program import quickest, version
+from camac.warn import looks_for_all
 
 
 def add_to(commands: Any) -> None:
@@ -27,11 +28,11 @@ def _fill(it: argparse.ArgumentParser) -> None:
 
 
 class _Version(argparse.Action):
-    def __call__(self, its: argparse.ArgumentParser, *_: Any) -> None:
+    def __call__(self, parser: argparse.ArgumentParser, *_: Any) -> None:
         from camac.proof import lines
 
         print(lines(quickest()), end="")
-        its.exit()
+        parser.exit()
 
 
 def do(args: argparse.Namespace) -> int:
@@ -46,17 +47,16 @@ def do(args: argparse.Namespace) -> int:
     else:
         text = judge.text_of(judged, args.format)
     say(text)
-    note = judge.note(program)
-    if note and args.format not in ("json", "sarif"):
-        print(f"camac: {note}", file=sys.stderr)
+    if args.format not in ("json", "sarif") and not looks_for_all(program):
+        print("camac: this program has no `tell`, so most warnings are not looked for", file=sys.stderr)
     return judge.status(judged, args.strict)
 
 
 def parse(words: List[str]) -> argparse.Namespace:
-    its = argparse.ArgumentParser(prog="camac-check", epilog=STATUS, formatter_class=argparse.RawDescriptionHelpFormatter)
-    _fill(its)
-    args = its.parse_args(words)
-    refuse_pipes(its, [args.plan, *args.scripts])
+    parser = argparse.ArgumentParser(prog="camac-check", epilog=STATUS, formatter_class=argparse.RawDescriptionHelpFormatter)
+    _fill(parser)
+    args = parser.parse_args(words)
+    refuse_pipes(parser, [args.plan, *args.scripts])
     return args
 
 

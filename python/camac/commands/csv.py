@@ -34,10 +34,8 @@ def make_csv(args: argparse.Namespace) -> int:
 
 
 def write_listing(lines: Iterable[str], out: TextIO) -> None:
-    """Writes a line for each operation of a listing, given by its lines, and none for its last line. Numbers are decimal; what an operation
-    does not have is empty.
-
-    Raises ValueError at a line that is none of a listing, and OSError if it cannot be written."""
+    """Writes a line for each operation of a listing, given by its lines, and none for its last line. Numbers are decimal; what an operation does not
+    have is empty. Raises ValueError at a line that is none of a listing, and OSError if it cannot be written."""
     writer = csv.writer(out, lineterminator="\n")
     writer.writerow(LISTING.split(","))
     writer.writerows(_rows(parse_listing(lines)))

@@ -3,7 +3,7 @@ import argparse
 from typing import Any, Dict, Iterator, List, Mapping, NamedTuple, Optional, Set, Tuple
 
 from camac import functions
-from camac.commands.running import DONE, REFUSED, add_every, read_every
+from camac.commands.running import DONE, REFUSED, add_every
 from camac.drive import File, Refused
 from camac.output import say
 from camac.subcommands import check, plan as read_plan, response
@@ -33,11 +33,7 @@ def add_to(commands: Any) -> None:
     other.add_argument("--plan", metavar="PLAN", help="OLD and NEW are scripts on this plan")
     other.add_argument("--script", metavar="SCRIPT", help="OLD and NEW are plans of this script")
     add_every(parser)
-    parser.set_defaults(do=do, out=None, read=read)
-
-
-def read(args: argparse.Namespace, parser: argparse.ArgumentParser) -> None:
-    args.every = read_every(args.every, parser)
+    parser.set_defaults(do=do, out=None)
 
 
 def do(args: argparse.Namespace) -> int:
@@ -96,11 +92,10 @@ def _shown(value: Optional[int]) -> str:
     return "-" if value is None else str(value)
 
 
-def bounds_of(plan: File, script: File, every: Mapping[str, int], program: Optional[File] = None) -> Dict[str, Bounds]:
+def bounds_of(plan: File, script: File, every: Mapping[str, int]) -> Dict[str, Bounds]:
     """What the services of a script may take. `every` has the rates of modules, as `camac.response` takes them. Raises as that does."""
-    late = {it.name: it for it in response(plan, script, every, program)}
-    services = check(plan, script, program)
-    return {it.name: Bounds(it.cycles, it.words, it.steps, late[it.name].start, late[it.name].end) for it in services}
+    late = {it.name: it for it in response(plan, script, every)}
+    return {it.name: Bounds(it.cycles, it.words, it.steps, late[it.name].start, late[it.name].end) for it in check(plan, script)}
 
 
 def changes(before: Dict[str, Bounds], after: Dict[str, Bounds]) -> List[Change]:

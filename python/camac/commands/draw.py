@@ -5,7 +5,7 @@ from typing import TYPE_CHECKING, Any, Callable, Dict, List, Mapping, Optional, 
 
 from camac import pictures
 from camac.commands.cuts import add_words, naming, read_cuts
-from camac.commands.running import DONE, FAULT, LOST, add_every, add_overwrite, read_every
+from camac.commands.running import DONE, FAULT, LOST, add_every, add_overwrite
 from camac.drive import ProgramFault
 from camac.fits import refuse
 from camac.output import anything, is_one_of, made_like, refuse_loss, write_made
@@ -144,4 +144,3 @@ def read(args: argparse.Namespace, parser: argparse.ArgumentParser) -> None:
     if any(its_words) and args.picture != "words":
         parser.error("--words, --pair, --gate, --region, --over, --range, --bins and --log are options of draw words")
     read_cuts(args, parser)
-    args.every = read_every(args.every, parser)

@@ -4,7 +4,7 @@ import contextlib
 from typing import Any
 
 from camac.commands.cuts import add_words, naming, read_cuts
-from camac.commands.running import STATUS, add_every, add_overwrite, read_every
+from camac.commands.running import STATUS, add_every, add_overwrite
 from camac.drive import Refused
 from camac.output import anything, refuse_loss, write_made
 from camac.report import report
@@ -22,13 +22,7 @@ def add_to(commands: Any) -> None:
     add_every(parser)
     add_words(parser)
     add_overwrite(parser)
-    parser.set_defaults(do=make_report, read=read)
-
-
-def read(args: argparse.Namespace, parser: argparse.ArgumentParser) -> None:
-    """Reads the values of options; ends with status 2 if they are not understood."""
-    read_cuts(args, parser)
-    args.every = read_every(args.every, parser)
+    parser.set_defaults(do=make_report, read=read_cuts)
 
 
 def make_report(args: argparse.Namespace) -> int:

@@ -4,7 +4,7 @@ import contextlib
 from typing import Any, Iterator, Mapping, Optional
 
 from camac import pictures
-from camac.commands.running import add_every, add_overwrite, read_every, read_pairs
+from camac.commands.running import add_every, add_overwrite, read_pairs
 from camac.drive import UsageFault
 from camac.drivers import run_python
 from camac.mock import Module, Place
@@ -58,7 +58,7 @@ def do(args: argparse.Namespace) -> int:
         args.parser.error(f"--services is 1 to {GREATEST_SERVICES:,}")
     form = f"SERVICE=RATE with {LEAST_RATE:g} to {GREATEST_RATE:,.0f} a second"
     rates = read_pairs("--rate", args.rate, args.parser, form, _read_rate)
-    setting = Setting(rates, args.cycle_us / 1e6, args.regular, read_every(args.every, args.parser), args.services, args.seed, args.worst)
+    setting = Setting(rates, args.cycle_us / 1e6, args.regular, args.every, args.services, args.seed, args.worst)
     made = simulate(args.plan, args.script, setting, _modules(args.modules), args.events)
     say("".join(f"{line}\n" for line in _lines(made, setting)))
     if args.out:

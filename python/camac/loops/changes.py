@@ -71,9 +71,9 @@ class Changes:
         if put and isinstance(it, Plain) and not isinstance(it.values[0], Number):
             return self.words(it, it.values[0])
         if sides and sides[1] == "-":
-            its = [one for value in it.expressions for one in parts_of(value) if isinstance(one, Operation) and one.sign == "-"]
+            differences = [one for value in it.expressions for one in parts_of(value) if isinstance(one, Operation) and one.sign == "-"]
             left, right = int(sides[2]), int(sides[3])
-            return self.fall(it, its[0], right if left + right <= MOST else 0) if its else None
+            return self.fall(it, differences[0], right if left + right <= MOST else 0) if differences else None
         return self.guard(it, min(int(sides[2]), int(sides[3]))) if sides and sides[1] == "+" and isinstance(it, Assign) and grows(it) else None
 
     def words(self, it: Plain, value: Expression) -> Change:

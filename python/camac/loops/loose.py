@@ -1,6 +1,6 @@
 """Loops of an accepted script whose bounds are looser than they have to be, as it is tried: what is kept for nothing, or in a wide range, and what would
 cost less if it were judged turn by turn."""
-from typing import Iterator, List, NamedTuple, Optional, Sequence, Tuple
+from typing import Iterator, List, Optional, Sequence, Tuple
 
 from camac.drive import File
 from camac.edits import Edit, edited
@@ -8,36 +8,15 @@ from camac.loops.proposals import put_before_block
 from camac.loops.search import least_ranges
 from camac.printed import read_headings
 from camac.program import accepts, verdict
-from camac.tree import Body, For, If, Keep, Loop, Range, Transfer, While, all_in, names_in
+from camac.tree import Body, For, If, Keep, Loop, Transfer, While, all_in, names_in
+from camac.warn.codes import Code, Warned
 
 Bounds = Tuple[int, int]
 
 
-class Wide(NamedTuple):
-    """A variable that a loop keeps, on a line, in a range; the least range, or None if it need not be kept at all; and the edits that fix it."""
-
-    line: int
-    name: str
-    least: Optional[Range]
-    edits: Tuple[Edit, ...]
-
-
-class Dear(NamedTuple):
-    """A loop, on a line, that would cost less if it were judged turn by turn; the service or procedure, and its cycles and words as it is and then; and
-    the edit that does it."""
-
-    line: int
-    name: str
-    before: Bounds
-    after: Bounds
-    edit: Edit
-
-
-def wide_keeps(plan: File, text: bytes, bodies: Sequence[Body], program: Optional[File] = None) -> Iterator[Wide]:
-    """Finds what the bodies of a script keep in wider ranges than they have to. Each that may be left out is tried alone, the least ranges of the others
-    together.
-
-    Raises ProgramFault and OSError as `camac.check`."""
+def wide_keeps(plan: File, text: bytes, bodies: Sequence[Body], program: Optional[File] = None) -> Iterator[Warned]:
+    """Warns of what the bodies of a script keep in wider ranges than they have to. Each that may be left out is tried alone, the least ranges of the
+    others together. Raises ProgramFault and OSError as `camac.check`."""
     loops = [it for body in bodies for it in body.every if isinstance(it, Loop) and it.keeps]
     if not loops:
         return
@@ -47,10 +26,12 @@ def wide_keeps(plan: File, text: bytes, bodies: Sequence[Body], program: Optiona
         for keep in loop.keeps:
             line = loop.line + text.count(b"\n", loop.start, keep.start)
             if keep.start in unused:
-                yield Wide(line, keep.name, None, (_without(text, loop, keep),))
+                said = f"this kept bound of `{keep.name}` is not needed: the script is accepted without it"
+                yield Warned(line, Code.UNUSED_KEEP, said, (_without(text, loop, keep),))
             elif keep.start in least:
                 low, high = least[keep.start]
-                yield Wide(line, keep.name, (low, high), (Edit(*keep.low, str(low)), Edit(*keep.high, str(high))))
+                said = f"this kept bound of `{keep.name}` is wider than it has to be: `{keep.name} in {low}..{high}` is accepted, too"
+                yield Warned(line, Code.WIDE_KEEP, said, (Edit(*keep.low, str(low)), Edit(*keep.high, str(high))))
 
 
 def _without(text: bytes, loop: Loop, keep: Keep) -> Edit:
@@ -63,11 +44,9 @@ def _without(text: bytes, loop: Loop, keep: Keep) -> Edit:
     return Edit(start, end, "\n" * text.count(b"\n", start, end))
 
 
-def dear_loops(plan: File, text: bytes, bodies: Sequence[Body], program: Optional[File] = None) -> Iterator[Dear]:
-    """Finds loops in the bodies of a script that would cost less if they were judged turn by turn, each for itself: those whose own variable says how much
-    a turn costs.
-
-    Raises ProgramFault and OSError as `camac.check`."""
+def dear_loops(plan: File, text: bytes, bodies: Sequence[Body], program: Optional[File] = None) -> Iterator[Warned]:
+    """Warns of loops in the bodies of a script that would cost less if they were judged turn by turn, each for itself: those whose own variable says
+    how much a turn costs. Raises ProgramFault and OSError as `camac.check`."""
     loops = [(at, it) for at, body in enumerate(bodies) for it in body.every if isinstance(it, For) and _differs(it)]
     before = _bounds(plan, text, program) if loops else []
     for at, loop in loops:
@@ -77,13 +56,16 @@ def dear_loops(plan: File, text: bytes, bodies: Sequence[Body], program: Optiona
             edit = Edit(loop.keep, end, "each" + "\n" * text.count(b"\n", loop.keep, end))
         after = _bounds(plan, edited(text, [edit]), program)
         if after and before and after[at] != before[at] and after[at][0] <= before[at][0] and after[at][1] <= before[at][1]:
-            yield Dear(loop.line, bodies[at].name, before[at], after[at], edit)
+            bounds = zip(after[at], before[at], ("cycles", "words"))
+            less = " and ".join(f"{new} {word} in place of {old}" for new, old, word in bounds if new != old)
+            said = f"judged turn by turn (`each`), this loop has a lower bound: `{bodies[at].name}` then takes {less}"
+            yield Warned(loop.line, Code.EACH, said, (edit,))
 
 
 def _differs(loop: For) -> bool:
     """Whether the turns of a loop between two numbers may cost different much."""
-    its = [it for it in all_in(loop.body) if isinstance(it, (If, For, While, Transfer))] if loop.turns and not loop.is_each else []
-    return any(loop.name in names_in(one) for it in its for one in it.expressions)
+    inside = [it for it in all_in(loop.body) if isinstance(it, (If, For, While, Transfer))] if loop.turns and not loop.is_each else []
+    return any(loop.name in names_in(one) for it in inside for one in it.expressions)
 
 
 def _bounds(plan: File, text: bytes, program: Optional[File]) -> List[Bounds]:

@@ -65,11 +65,10 @@ class Found:
 
     def proposals(self) -> Iterator[Proposal]:
         loops: Dict[Loop, Dict[str, Range]] = {}
-        for (loop, name), its in self.kept.items():
-            loops.setdefault(loop, {})[name] = its
-        for kind, loop, edits in [
-            *((Kind.EACH, it, [put_before_block(self.text, it, "each")]) for it in self.each), *((Kind.KEEP, it, self.keeps(it, its)) for it, its in loops.items()),
-        ]:
+        for (loop, name), kept in self.kept.items():
+            loops.setdefault(loop, {})[name] = kept
+        of_each = [(Kind.EACH, it, [put_before_block(self.text, it, "each")]) for it in self.each]
+        for kind, loop, edits in (*of_each, *((Kind.KEEP, it, self.keeps(it, kept)) for it, kept in loops.items())):
             yield Proposal(kind, loop.line, self.shown(loop.start, loop.block + 1, edits), tuple(edits))
         for it, change in self.changed.items():
             new = change.text if change.start == it.start else self.shown(it.start, change.end, [change.edit()])
@@ -77,7 +76,7 @@ class Found:
 
     def keeps(self, loop: Loop, ranges: Dict[str, Range]) -> List[Edit]:
         given = {it.name: it for it in loop.keeps}
-        old = [(given[name], its) for name, its in ranges.items() if name in given]
+        old = [(given[name], ends) for name, ends in ranges.items() if name in given]
         edits = [edit for it, (low, high) in old for edit in (Edit(*it.low, str(low)), Edit(*it.high, str(high)))]
         new = ", ".join(f"{name} in {low}..{high}" for name, (low, high) in sorted(ranges.items()) if name not in given)
         if new:
@@ -95,17 +94,17 @@ class Found:
         all_found: List[MutableMapping[Any, Any]] = [self.kept, self.each, self.changed]
         out = [False, True]
         while any(it < other for it, other in zip(out, out[1:])):
-            its = [(found, it) for found in all_found for it in found]
-            out = _leave_out(its, is_good) if len(its) > 1 else []
+            parts = [(found, it) for found in all_found for it in found]
+            out = _leave_out(parts, is_good) if len(parts) > 1 else []
 
 
-def _leave_out(its: Sequence[Tuple[MutableMapping[Any, Any], Any]], is_good: Callable[[], bool]) -> List[bool]:
+def _leave_out(parts: Sequence[Tuple[MutableMapping[Any, Any], Any]], is_good: Callable[[], bool]) -> List[bool]:
     """Leaves out as many of these as may be: all at once if there are many, else one by one. Says of each whether it is left out."""
-    if len(its) == 1 or len(its) > FEW:
-        left_out = [found.pop(it) for found, it in its]
+    if len(parts) == 1 or len(parts) > FEW:
+        left_out = [found.pop(it) for found, it in parts]
         if is_good():
-            return [True] * len(its)
-        for (found, it), value in zip(its, left_out):
+            return [True] * len(parts)
+        for (found, it), value in zip(parts, left_out):
             found[it] = value
-    at = len(its) // 2 if len(its) > FEW else 1
-    return [*_leave_out(its[:at], is_good), *_leave_out(its[at:], is_good)] if len(its) > 1 else [False] * len(its)
+    at = len(parts) // 2 if len(parts) > FEW else 1
+    return [*_leave_out(parts[:at], is_good), *_leave_out(parts[at:], is_good)] if len(parts) > 1 else [False] * len(parts)

@@ -48,7 +48,7 @@ def propose(plan: File, script: bytes, program: Optional[File] = None, keeps_onl
     search = _Search(plan, script, program, keeps_only)
     remaining = search.run(refusal is not None)
     proposals = sorted([*search.found.proposals(), *search.headings], key=lambda it: (it.line, it.edits))
-    return Proposals(tuple(proposals), remaining, search.trials.calls + 1)
+    return Proposals(tuple(proposals), remaining, len(search.trials.told) + 1)
 
 
 def write_keeps(plan: File, script: str, program: Optional[File] = None) -> List[Proposal]:
@@ -66,15 +66,15 @@ def write_keeps(plan: File, script: str, program: Optional[File] = None) -> List
 def least_ranges(plan: File, script: bytes, kept: AbstractSet[int], program: Optional[File] = None) -> Dict[int, Range]:
     """The ranges of an accepted script, of those that begin at these places, that are accepted in all, too, and are less; nothing if there is none."""
     search = _Search(plan, script, program, keeps_only=True)
-    its = {(loop, it.name): it for loop, _ in search.given for it in loop.keeps if it.start in kept}
-    search.found.kept = dict.fromkeys(its, NOTHING)
-    stopped = search.stopped(BOUNDS) if its else None
+    keeps = {(loop, it.name): it for loop, _ in search.given for it in loop.keeps if it.start in kept}
+    search.found.kept = dict.fromkeys(keeps, NOTHING)
+    stopped = search.stopped(BOUNDS) if keeps else None
     while stopped and search.may_ask() and search.widen(stopped):
         stopped = search.stopped(BOUNDS)
     inside = {cause: (low, high) for cause, (low, high) in search.found.kept.items() if search.given[cause][0] <= low and high <= search.given[cause][1]}
     search.found.kept = {cause: found for cause, found in inside.items() if found != search.given[cause]}
     is_good = not stopped and search.found.kept and search.stopped(CHECK) is None
-    return {its[cause].start: found for cause, found in search.found.kept.items()} if is_good else {}
+    return {keeps[cause].start: found for cause, found in search.found.kept.items()} if is_good else {}
 
 
 class _Search:
@@ -106,7 +106,7 @@ class _Search:
         return self.trials.stopped(command, self.found.edits())
 
     def may_ask(self) -> bool:
-        return self.trials.calls < MOST_CALLS - LAST_CALLS
+        return len(self.trials.told) < MOST_CALLS - LAST_CALLS
 
     def help(self, command: str) -> Optional[Stopped]:
         """Finds what helps, and the least of it. Returns what refuses the script then."""
@@ -144,7 +144,7 @@ class _Search:
         if not self.may_ask():
             return False
         stopped = self.trials.stopped(command, found.edits())
-        return (stopped and stopped.place()) == (best and best.place())
+        return (stopped and stopped[:2]) == (best and best[:2])
 
     def body_of(self, about: Union[Statement, Body]) -> Body:
         return next(it for it in self.bodies if it.start <= about.start < it.end)
@@ -177,8 +177,8 @@ class _Search:
         loop, name = cause
         steps = {0, WORD - 1, MOST}
         if not self.guarded[name]:
-            its = [one.value for it in self.body_of(loop).every for value in it.expressions for one in parts_of(value) if isinstance(one, Number)]
-            steps.update(USUAL, (near for it in its for near in (it - 1, it, it + 1) if 0 <= near <= MOST))
+            numbers = [one.value for it in self.body_of(loop).every for value in it.expressions for one in parts_of(value) if isinstance(one, Number)]
+            steps.update(USUAL, (near for it in numbers for near in (it - 1, it, it + 1) if 0 <= near <= MOST))
         ends = sorted(steps)
         low = new[0] if new[0] == old[0] else ends[bisect.bisect_right(ends, new[0]) - 1]
         return low, new[1] if new[1] == old[1] else ends[bisect.bisect_left(ends, new[1])]
@@ -215,9 +215,9 @@ class _Search:
         """Makes room for so much at once wherever a variable grows, and keeps it anew."""
         self.guarded[name] = step
         self.lost = {one for one in self.lost if one[1] != name}
-        its = [it for it in body.every if isinstance(it, Assign) and it.name == name and grows(it)]
+        growing = [it for it in body.every if isinstance(it, Assign) and it.name == name and grows(it)]
         changed = self.found.changed
-        changed.update((it, self.changes.guard(it, step)) for it in its if it not in changed or changed[it].step)
+        changed.update((it, self.changes.guard(it, step)) for it in growing if it not in changed or changed[it].step)
 
     def fit_headings(self) -> None:
         """Where the headings of a script refuse it, finds what lowers its costs, or proposes the least headings."""
@@ -227,16 +227,15 @@ class _Search:
         if self.help(CHECK) is not None:
             self.found = found
             answer = self.trials.judged(BOUNDS, found.edits())
-            its = least_headings(self.text, read_headings(answer.text))
-            self.headings += [Proposal(Kind.HEADING, it.line, it.heading, it.edits) for it in its]
+            self.headings = least_headings(self.text, read_headings(answer.text))
 
 
 def _judged(statements: Iterable[Statement], chosen: Container[Statement]) -> Tuple[int, int]:
     """What is judged where a block is judged once, and how much of that in an `each`: a turn counts one, and each statement in it."""
     judged = in_each = 0
     for it in statements:
-        its = [_judged(block, chosen) for block in blocks_of(it)]
-        inside, deeper = sum(one for one, _ in its), sum(one for _, one in its)
+        blocks = [_judged(block, chosen) for block in blocks_of(it)]
+        inside, deeper = sum(one for one, _ in blocks), sum(one for _, one in blocks)
         if isinstance(it, For) and (it.is_each or it in chosen):
             inside = deeper = (it.turns or 0) * (1 + inside)
         judged, in_each = judged + 1 + inside, in_each + deeper
@@ -246,14 +245,14 @@ def _judged(statements: Iterable[Statement], chosen: Container[Statement]) -> Tu
 def turn_by_turn(body: Body) -> List[For]:
     """The loops of a body that may all be judged turn by turn and are not: `for` loops between two numbers that keep nothing. Where that is too much,
     those that judge most are left out."""
-    its = [it for it in body.every if isinstance(it, For) and it.turns and it.turns <= MOST_TURNS and not it.keeps and not it.is_each]
-    chosen = set(its)
-    its.sort(key=lambda it: _judged([it], chosen)[1])
-    least, most = 0, len(its)
+    loops = [it for it in body.every if isinstance(it, For) and it.turns and it.turns <= MOST_TURNS and not it.keeps and not it.is_each]
+    chosen = set(loops)
+    loops.sort(key=lambda it: _judged([it], chosen)[1])
+    least, most = 0, len(loops)
     while least < most:
         count = (least + most + 1) // 2
-        if _judged(body.statements, set(its[:count]))[1] <= MOST_JUDGED:
+        if _judged(body.statements, set(loops[:count]))[1] <= MOST_JUDGED:
             least = count
         else:
             most = count - 1
-    return its[:least]
+    return loops[:least]

@@ -19,9 +19,6 @@ class Stopped(NamedTuple):
     rule: str
     sentence: str
 
-    def place(self) -> object:
-        return self.code, self.about
-
 
 class Trials:
     """A script on a plan, with which changes are tried. Each of its statements is judged on a line of its own, so that a refusal names one."""
@@ -37,10 +34,6 @@ class Trials:
                 self.breaks.append(Edit(it.start, it.start, "\n"))
                 self.at[it.line + len(self.breaks)] = it
 
-    @property
-    def calls(self) -> int:
-        return len(self.told)
-
     def judged(self, command: str, edits: Sequence[Edit]) -> Verdict:
         """What camac says of the script with these changes. It is asked once."""
         key = command, tuple(edits)
@@ -52,5 +45,5 @@ class Trials:
 
     def stopped(self, command: str, edits: Sequence[Edit]) -> Optional[Stopped]:
         """What refuses the script with these changes; None if it is accepted."""
-        its = read_explanation(self.judged(command, edits).text)
-        return its and Stopped(its.refusal.code, self.at.get(its.refusal.line or 0), its.refusal.rule, its.sentence)
+        explained = read_explanation(self.judged(command, edits).text)
+        return explained and Stopped(explained.refusal.code, self.at.get(explained.refusal.line or 0), explained.refusal.rule, explained.sentence)

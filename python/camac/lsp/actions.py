@@ -38,7 +38,7 @@ def fixes(judged: Judged, lines: range, warned: Sequence[Warned]) -> Iterator[Fi
 
 
 def _of_refusal(judged: Judged, it: Placed) -> Iterator[Fix]:
-    near = NEAR.find(it.sentence)
+    near = NEAR.find(it.message())
     if near and near.earlier:
         wrong = [one for one in NAMES.finditer(judged.text.data[: it.start].decode("latin-1")) if one[1] == near.earlier]
         if wrong:

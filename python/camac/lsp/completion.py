@@ -62,22 +62,22 @@ def complete(judged: Judged, place: int) -> List[Item]:
     def ask(text: bytes) -> str:
         return judged.judge.ask("tell", text).text
 
-    its = expected(ask, before)
-    items = [*_words(its), *_names(judged, ask, its, before, start), *_numbers(judged, before, start)]
+    allowed = expected(ask, before)
+    items = [*_words(allowed), *_names(judged, ask, allowed, before, start), *_numbers(judged, before, start)]
     return list({it["label"]: it for it in items}.values())
 
 
-def _words(its: Expected) -> Iterator[Item]:
-    words = set(its.words).union(*(GROUPS.get(it, frozenset()) for it in its.groups))
+def _words(allowed: Expected) -> Iterator[Item]:
+    words = set(allowed.words).union(*(GROUPS.get(it, frozenset()) for it in allowed.groups))
     for it in sorted(words):
         yield {"label": it, "kind": KEYWORD if it in WORDS or it == EACH else OPERATOR, "sortText": f"2{it}"}
 
 
-def _names(judged: Judged, ask: Callable[[bytes], str], its: Expected, before: bytes, start: int) -> Iterator[Item]:
+def _names(judged: Judged, ask: Callable[[bytes], str], allowed: Expected, before: bytes, start: int) -> Iterator[Item]:
     kinds: Set[Kind] = set()
-    if its.groups & {"a statement", "an expression", "a condition"}:
+    if allowed.groups & {"a statement", "an expression", "a condition"}:
         kinds = {Kind.VARIABLE, Kind.PARAMETER}
-    elif "a name" in its.groups:
+    elif "a name" in allowed.groups:
         # A name that is not declared is refused by what it has to be; nothing if it is a new one.
         found = NOT_DECLARED.find(ask(before + b" " + NO_NAME.encode()))
         kinds = {it for it in Kind if found and it.value == found["kind"]} | ({Kind.PARAMETER} if found and found["kind"] == "variable" else set())
@@ -122,8 +122,8 @@ def _parts_of_address(judged: Judged, words: List[str]) -> Iterator[Item]:
         for it in declared_at(judged.plan, address):
             for sub in range(it.first, it.last + 1):
                 by_sub.setdefault(sub, []).append(it)
-        for sub, its in sorted(by_sub.items()):
-            yield _value(sub, " ".join(f"F{it.function}" for it in its if not it.is_probe) or "a probe")
+        for sub, declared in sorted(by_sub.items()):
+            yield _value(sub, " ".join(f"F{it.function}" for it in declared if not it.is_probe) or "a probe")
 
 
 def _functions(judged: Judged, start: int) -> Iterator[Item]:

@@ -1,26 +1,28 @@
 """What is shown at the lines of a text: refusals, warnings, and faults of plans."""
 import functools
-import pathlib
-from typing import Any, Dict, List, Optional
+from typing import TYPE_CHECKING, Any, Dict, List, Optional
 
 from camac.lsp.documents import Range, Text
-from camac.lsp.refusals import Placed, refusals
+from camac.lsp.refusals import refusals
 from camac.lsp.workspace import Judge, Judged
 from camac.printed import read_explanation, read_responses
 from camac.program import advice_on
-from camac.toml_places import place_of
-from camac.warn import Code, Warned, look_at
+
+if TYPE_CHECKING:
+    from camac.warn import Warned
 
 ERROR, WARNING = 1, 2
-UNNECESSARY = [1]
+# What is never reached, and what is kept for nothing, is shown so.
+UNNECESSARY, FADED = [1], ("W1", "W4")
 Diagnostic = Dict[str, Any]
 
 
 @functools.lru_cache(maxsize=None)
 def page(name: str) -> Optional[str]:
     """The URI of a page of the documentation, where ./install put it, or in the repository."""
-    here = pathlib.Path(__file__).resolve()
-    for folder in here.parents:
+    import pathlib
+
+    for folder in pathlib.Path(__file__).resolve().parents:
         for it in (folder / "docs" / name, folder / "share/doc/camac/docs" / name):
             if it.is_file():
                 return it.as_uri()
@@ -29,13 +31,13 @@ def page(name: str) -> Optional[str]:
 
 def shown(code: str, text: str, severity: int, place: Range) -> Diagnostic:
     """A diagnostic, with a link to what the pages say of its code."""
-    its: Diagnostic = {"range": place, "severity": severity, "source": "camac", "message": text}
+    made: Diagnostic = {"range": place, "severity": severity, "source": "camac", "message": text}
     if code:
-        its["code"] = code
+        made["code"] = code
         link = page("REFUSALS.md")
         if link:
-            its["codeDescription"] = {"href": f"{link}#{code.lower()}"}
-    return its
+            made["codeDescription"] = {"href": f"{link}#{code.lower()}"}
+    return made
 
 
 def of_refusals(judged: Judged) -> List[Diagnostic]:
@@ -44,16 +46,12 @@ def of_refusals(judged: Judged) -> List[Diagnostic]:
         return []
     found, verdict = refusals(judged), judged.ask("tell")
     if found:
-        return [of_refusal(it, judged.text) for it in found]
+        return [shown(it.code, it.message(), ERROR, judged.text.range(it.start, it.end)) for it in found]
     of_its_plan = read_explanation(verdict.text)
     if of_its_plan is None:
         return [of_fault(judged.text, verdict.text.rstrip("\n"))]
     text = f"the plan is refused: {of_its_plan.refusal.rule}"
     return [shown(of_its_plan.refusal.code, "\n".join([text, *of_its_plan.lines]), ERROR, line_range(judged.text, 1))]
-
-
-def of_refusal(it: Placed, text: Text) -> Diagnostic:
-    return shown(it.code, it.message(), ERROR, text.range(it.start, it.end))
 
 
 def of_fault(text: Text, why: str) -> Diagnostic:
@@ -65,31 +63,35 @@ def of_plan(judge: Judge, text: Text) -> List[Diagnostic]:
     verdict = judge.explained
     if verdict.accepted:
         return []
-    its = read_explanation(verdict.text)
-    if its is None:
+    explained = read_explanation(verdict.text)
+    if explained is None:
         return [of_fault(text, verdict.text.partition("\n")[0])]
-    place = place_of(text.text, its.sentence)
+    from camac.toml_places import place_of
+
+    place = place_of(text.text, explained.sentence)
     start, end = (len(text.text[:it].encode("utf-8", "surrogatepass")) for it in place)
-    message = "\n".join([f"{its.refusal.rule}. {its.sentence}".rstrip(), *its.advice])
-    return [shown(its.refusal.code, message, ERROR, text.range(start, end))]
+    message = "\n".join([f"{explained.refusal.rule}. {explained.sentence}".rstrip(), *explained.advice])
+    return [shown(explained.refusal.code, message, ERROR, text.range(start, end))]
 
 
-def warned(judged: Judged) -> List[Warned]:
+def warned(judged: Judged) -> "List[Warned]":
     """The warnings of a script; none if it is refused. This may take long."""
-    verdict, its = judged.ask("tell"), judged.judge
+    verdict, judge = judged.ask("tell"), judged.judge
     if not verdict.accepted:
         return []
-    return look_at(its.file, judged.text.data, verdict.text, read_responses(judged.ask("response").text), its.program)[1]
+    from camac.warn import look_at
+
+    return look_at(judge.file, judged.text.data, verdict.text, read_responses(judged.ask("response").text), judge.program)[1]
 
 
-def of_warning(it: Warned, text: Text) -> Diagnostic:
-    its = shown(it.code.value, "\n".join([it.text, *advice_on(it.code.value)[:-1]]), WARNING, line_range(text, it.line))
-    if it.code in (Code.UNREACHED, Code.UNUSED_KEEP):
-        its["tags"] = UNNECESSARY
-    return its
+def of_warning(it: "Warned", text: Text) -> Diagnostic:
+    made = shown(it.code.value, "\n".join([it.text, *advice_on(it.code.value)[:-1]]), WARNING, line_range(text, it.line))
+    if it.code.value in FADED:
+        made["tags"] = UNNECESSARY
+    return made
 
 
 def line_range(text: Text, line: int) -> Range:
-    at, its = text.line_starts[min(line, len(text.line_starts)) - 1], text.line_of(line)
-    code = its.partition(b"#")[0].rstrip() or its.rstrip()
+    at, data = text.line_starts[min(line, len(text.line_starts)) - 1], text.line_of(line)
+    code = data.partition(b"#")[0].rstrip() or data.rstrip()
     return text.range(at + len(code) - len(code.lstrip()), at + len(code))

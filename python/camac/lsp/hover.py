@@ -1,6 +1,6 @@
 """The hover text of the place under the pointer, in Markdown."""
 import re
-from typing import Iterator, List, NamedTuple, Optional
+from typing import Iterator, List, Optional, Tuple
 
 from camac import functions
 from camac.language import OF_FUNCTIONS, Kind
@@ -14,53 +14,45 @@ from camac.values import Address, BodyKind, Cost, Declaration, ModuleType, Plan,
 GREATEST = 4_294_967_295
 
 
-class HoverText(NamedTuple):
-    """A hover text, and its part of the document, in bytes."""
-
-    text: str
-    start: int
-    end: int
-
-
-def hover(judged: Judged, place: int, choice: Choice) -> Optional[HoverText]:
-    """The hover text of a place in bytes; None if there is none."""
+def hover(judged: Judged, place: int, choice: Choice) -> Optional[Tuple[str, int, int]]:
+    """The hover text of a place in bytes, and its part of the document; None if there is none."""
     mention = judged.names.at(place)
     if mention:
         parts = list(_of_name(judged, mention, choice))
-        return HoverText("\n\n".join(parts), mention.start, mention.end) if parts else None
-    its = statement_tokens(judged, place)
-    token = next((it for it in its if it.start <= place <= it.end), None)
+        return ("\n\n".join(parts), mention.start, mention.end) if parts else None
+    tokens = statement_tokens(judged, place)
+    token = next((it for it in tokens if it.start <= place <= it.end), None)
     if token is None:
         return None
-    if its[1:2] == [token] and its[0].text in OF_FUNCTIONS:
-        return HoverText(_of_function(judged, its), token.start, token.end)
-    row = row_of(judged, its[0])
-    return HoverText(_of_row(row), its[0].start, its[-1].end) if row else None
+    if tokens[1:2] == [token] and tokens[0].text in OF_FUNCTIONS:
+        return _of_function(judged, tokens), token.start, token.end
+    row = row_of(judged, tokens[0])
+    return (_of_row(row), tokens[0].start, tokens[-1].end) if row else None
 
 
 def _of_name(judged: Judged, mention: Mention, choice: Choice) -> Iterator[str]:
-    its = mention.symbol
-    if its.kind is Kind.LAM:
+    symbol = mention.symbol
+    if symbol.kind is Kind.LAM:
         yield from _of_lam(judged, mention)
-        yield from _of_body(judged, BodyKind.SERVICE, its.name)
+        yield from _of_body(judged, BodyKind.SERVICE, symbol.name)
         yield f"Plan: {choice.text()}"
-    elif its.kind is Kind.PROCEDURE:
-        yield from _of_body(judged, BodyKind.PROCEDURE, its.name)
-    elif its.kind is Kind.REGISTER:
-        yield f"register `{its.name}`"
+    elif symbol.kind is Kind.PROCEDURE:
+        yield from _of_body(judged, BodyKind.PROCEDURE, symbol.name)
+    elif symbol.kind is Kind.REGISTER:
+        yield f"register `{symbol.name}`"
         for line, address in addresses(judged, mention):
             yield f"line {line}: {address_text(judged.plan, address)}"
-    elif its.kind is Kind.TABLE:
-        yield f"table `{its.name}`"
+    elif symbol.kind is Kind.TABLE:
+        yield f"table `{symbol.name}`"
     else:
         yield _of_variable(judged, mention)
 
 
 def _of_variable(judged: Judged, mention: Mention) -> str:
     kind, name = mention.symbol.kind.value, mention.symbol.name
-    its = range_at(judged, mention)
-    if its:
-        return f"{kind} `{name}`: {range_text(its)} before this statement"
+    ends = range_at(judged, mention)
+    if ends:
+        return f"{kind} `{name}`: {range_text(ends)} before this statement"
     if mention.symbol.kind is not Kind.PARAMETER:
         return f"{kind} `{name}`: 0..{GREATEST}"
     # The range of a parameter is in the heading.
@@ -106,42 +98,43 @@ def _of_row(row: Row) -> str:
     return f"`{row.word}`: {times}{about}\n\nonce it costs {_cost(row.each)}; its share of the bound is {_cost(row.share)}"
 
 
-def _cost(its: Cost) -> str:
-    return ", ".join(_counted(number, word) for number, word in zip(its, ("cycle", "word", "step")))
+def _cost(cost: Cost) -> str:
+    return ", ".join(_counted(number, word) for number, word in zip(cost, ("cycle", "word", "step")))
 
 
 def _counted(number: int, word: str) -> str:
     return f"{number} {word}" + ("" if number == 1 else "s")
 
 
-def address_text(plan: Plan, its: Address) -> str:
-    names = sorted({it.name for it in types_at(plan, its)})
+def address_text(plan: Plan, address: Address) -> str:
+    names = sorted({it.name for it in types_at(plan, address)})
     what = f": {', '.join(names)}" if names else ""
-    return f"crate {range_text(its.crate)}, station {range_text(its.station)}, sub-address {range_text(its.sub_address)}{what}"
+    return f"crate {range_text(address.crate)}, station {range_text(address.station)}, sub-address {range_text(address.sub_address)}{what}"
 
 
-def types_at(plan: Plan, its: Address) -> List[ModuleType]:
+def types_at(plan: Plan, address: Address) -> List[ModuleType]:
     """The types of the modules at an address."""
     found = [
         plan.types[it.type]
         for crate in plan.crates
-        if its.crate[0] <= crate.number <= its.crate[1]
+        if address.crate[0] <= crate.number <= address.crate[1]
         for it in crate.stations
-        if its.station[0] <= it.number <= its.station[1]
+        if address.station[0] <= it.number <= address.station[1]
     ]
     return list({it.name: it for it in found}.values())
 
 
-def declared_at(plan: Plan, its: Address) -> List[Declaration]:
+def declared_at(plan: Plan, address: Address) -> List[Declaration]:
     """The commands that the plan declares at an address."""
-    return [it for one in types_at(plan, its) for it in one.declarations if it.first <= its.sub_address[1] and its.sub_address[0] <= it.last]
+    first, last = address.sub_address
+    return [it for one in types_at(plan, address) for it in one.declarations if it.first <= last and first <= it.last]
 
 
-def _of_function(judged: Judged, its: List[Token]) -> str:
+def _of_function(judged: Judged, tokens: List[Token]) -> str:
     """The name of a statement's function, and what the plan says of it at the statement's registers."""
-    function = int(its[1].text)
+    function = int(tokens[1].text)
     parts = [f"F{function}: {functions.name(function)}"]
-    register = judged.names.at(its[2].start) if len(its) > 2 else None
+    register = judged.names.at(tokens[2].start) if len(tokens) > 2 else None
     for _, address in addresses(judged, register) if register else ():
         text = address_text(judged.plan, address)
         found = sorted({function_text(it) for it in declared_at(judged.plan, address) if it.function == function})

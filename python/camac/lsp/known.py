@@ -24,12 +24,12 @@ def statement_tokens(judged: Judged, place: int) -> List[Token]:
         begin = max(block.brace + 1, data.rfind(b"\n", block.brace, begin))
         end = data.find(b"\n", end + 1, block.end)
         end = block.end if end < 0 else end
-    its = [it._replace(start=it.start + begin, end=it.end + begin) for it in tokens_of(data[begin:end])]
-    firsts = [at for at, is_first in enumerate(begins([it.text for it in its])) if is_first]
-    number = bisect.bisect_right([its[at].start for at in firsts], place) - 1
-    if number < 0 or its[firsts[number]].text in "{}":
+    tokens = [it._replace(start=it.start + begin, end=it.end + begin) for it in tokens_of(data[begin:end])]
+    firsts = [at for at, is_first in enumerate(begins([it.text for it in tokens])) if is_first]
+    number = bisect.bisect_right([tokens[at].start for at in firsts], place) - 1
+    if number < 0 or tokens[firsts[number]].text in "{}":
         return []
-    found = its[firsts[number] : firsts[number + 1] if number + 1 < len(firsts) else len(its)]
+    found = tokens[firsts[number] : firsts[number + 1] if number + 1 < len(firsts) else len(tokens)]
     return found if place <= found[-1].end else []
 
 
@@ -41,10 +41,10 @@ def row_of(judged: Judged, first: Token) -> Optional[Row]:
 
 def range_at(judged: Judged, mention: Mention) -> Optional[Range]:
     """The range of a variable before the statement that names it, as the checker knows it; None where it does not come to the statement."""
-    its = statement_tokens(judged, mention.start)
-    if not its:
+    tokens = statement_tokens(judged, mention.start)
+    if not tokens:
         return None
-    at = judged.text.line_and_column(its[0].start)
+    at = judged.text.line_and_column(tokens[0].start)
     verdict = judged.once(("known", at), lambda: judged.judge.ask("explain", judged.text.data, at))
     words = read_known(verdict.text).get(mention.symbol.name, []) if verdict.accepted else []
     return range_of(words[0]) if len(words) == 1 else None
@@ -52,8 +52,8 @@ def range_at(judged: Judged, mention: Mention) -> Optional[Range]:
 
 def addresses(judged: Judged, mention: Mention) -> List[Tuple[int, Address]]:
     """What a register may address, by lines: where the statement that names it makes cycles, there; else in the cycles of its body."""
-    its = statement_tokens(judged, mention.start)
-    rows = [row_of(judged, its[0])] if its and its[0].text != "cdreg" else []
+    here = statement_tokens(judged, mention.start)
+    rows = [row_of(judged, here[0])] if here and here[0].text != "cdreg" else []
     if not rows:
         used = itertools.islice((it for it in judged.names.of(mention.symbol) if not it.declares), AROUND)
         rows = [row_of(judged, tokens[0]) for tokens in (statement_tokens(judged, it.start) for it in used) if tokens]

@@ -32,9 +32,8 @@ class Ended(Exception):
 
 
 def read_message(stream: BinaryIO) -> Message:
-    """The next message. Lines that are no header are passed over, so that a wrong length costs what it hides and no more.
-
-    Raises Garbled if the bytes behind a header are no message, and Ended at the end of the stream, also within a message."""
+    """The next message. Lines that are no header are passed over, so that a wrong length costs what it hides and no more. Raises Garbled if the bytes
+    behind a header are no message, and Ended at the end of the stream, also within a message."""
     try:
         size = _read_headers(stream)
         data = stream.read(size)
@@ -73,6 +72,7 @@ class Connection:
 
     def __init__(self, source: BinaryIO, target: BinaryIO) -> None:
         self.source, self.target = source, target
+        # Messages, also those of the server's own, and what failed, which the client logs.
         self.arrived: "queue.Queue[Union[Message, Exception]]" = queue.Queue()
         self.lock = threading.Lock()
         # The requests that wait, and those of them that are cancelled.
@@ -130,13 +130,6 @@ class Connection:
             self.waiting.discard(number)
             self.cancelled.discard(number)
         return is_cancelled
-
-    def put(self, it: Union[Message, Exception]) -> None:
-        """Adds a message of the server's own to those that arrived, or what failed, which the client logs."""
-        self.arrived.put(it)
-
-    def is_idle(self) -> bool:
-        return self.arrived.empty()
 
     def send(self, message: Message) -> None:
         data = json.dumps({"jsonrpc": "2.0", **message}).encode()

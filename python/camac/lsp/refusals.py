@@ -39,16 +39,16 @@ def _refusals(judged: Judged) -> Iterator[Placed]:
 
 def _place(judged: Judged, code: str, line: int, column: int) -> Tuple[int, int]:
     """The place of what is refused on a line, where it begins at this column."""
-    its = judged.text.line_of(line)
+    data = judged.text.line_of(line)
     at, start = judged.text.line_starts[min(line, len(judged.text.line_starts)) - 1], column - 1
     if code == "S1":
         # A sign may have several bytes.
-        return at + start, at + start + len(SIGN.match(its, start)[0])  # type: ignore[index]
-    before = tokens_of(its)
+        return at + start, at + start + len(SIGN.match(data, start)[0])  # type: ignore[index]
+    before = tokens_of(data)
     # The end of the script is shown at its last token.
     tokens = [it for it in before if it.start >= start] or before[-1:]
     if not tokens:
-        return at + len(its), at + len(its)
+        return at + len(data), at + len(data)
     # A statement goes on to the next one, or to the end of the line.
     after = (place for place, it in enumerate(begins([it.text for it in tokens])) if place and (it or code[0] == "S"))
     return at + tokens[0].start, at + tokens[next(after, len(tokens)) - 1].end

@@ -1,25 +1,28 @@
 """The server: its answers to the messages of a client."""
+import os
 import signal
 import sys
 import threading
 import time
-from typing import Any, BinaryIO, Callable, Dict, List, Optional, Sequence, Set, Tuple, Union
+from typing import TYPE_CHECKING, Any, BinaryIO, Callable, Dict, List, Optional, Sequence, Set, Tuple, Union
 
-from camac import library
+from camac import native
 from camac.edits import Edit
 from camac.layout import LayoutFault, formatted
-from camac.lsp import actions, diagnostics, symbols
-from camac.lsp.completion import complete
+from camac.lsp import diagnostics
 from camac.lsp.documents import Text
-from camac.lsp.hover import hover
 from camac.lsp.protocol import (
     FAILED, INFO, INTERNAL_ERROR, INVALID_PARAMS, INVALID_REQUEST, METHOD_NOT_FOUND, NOT_INITIALIZED, Connection, Ended, Message, ResponseError,
 )
 from camac.lsp.refusals import refusals
 from camac.lsp.workspace import Choice, Document, Judged, Workspace, is_plan_text
 from camac.names import Mention
-from camac.warn import Warned
 
+if TYPE_CHECKING:
+    from camac.lsp.actions import Fix
+    from camac.warn import Warned
+
+# What is loaded in a method is needed by few sessions, or late in them.
 # The seconds without a message before warnings are looked for, and between two looks at the plans on the disk.
 QUIET, LOOK = 0.3, 1.0
 # The seconds after which a document is judged although it still changes.
@@ -67,10 +70,10 @@ class Server:
     def __init__(self, source: BinaryIO, target: BinaryIO) -> None:
         self.client = Connection(source, target)
         self.workspace = Workspace(self.tell_choice)
-        self.late = Late(self.client.put)
+        self.late = Late(self.client.arrived.put)
         self.state = "new"
         # By URI: the last version whose warnings are known, with these; when they are to be looked for; and the scripts whose plan cannot be read.
-        self.warned: Dict[str, Tuple[Text, List[Warned]]] = {}
+        self.warned: Dict[str, "Tuple[Text, List[Warned]]"] = {}
         self.due: Dict[str, float] = {}
         self.faulty: Set[str] = set()
         # The documents of which something is to be published, and since when.
@@ -152,22 +155,14 @@ class Server:
     def initialize(self, _: Params) -> Any:
         self.state = "ready"
         capabilities = {
-            "positionEncoding": "utf-16",
-            "textDocumentSync": {"openClose": True, "change": 2, "save": {"includeText": False}},
-            "hoverProvider": True,
-            "completionProvider": {"triggerCharacters": [" "]},
-            "definitionProvider": True,
-            "referencesProvider": True,
-            "documentHighlightProvider": True,
-            "renameProvider": {"prepareProvider": True},
-            "documentSymbolProvider": True,
-            "foldingRangeProvider": True,
-            "documentFormattingProvider": True,
-            "codeActionProvider": {"codeActionKinds": ["quickfix"]},
+            "positionEncoding": "utf-16", "textDocumentSync": {"openClose": True, "change": 2, "save": {"includeText": False}},
+            "hoverProvider": True, "completionProvider": {"triggerCharacters": [" "]}, "definitionProvider": True, "referencesProvider": True,
+            "documentHighlightProvider": True, "renameProvider": {"prepareProvider": True}, "documentSymbolProvider": True,
+            "foldingRangeProvider": True, "documentFormattingProvider": True, "codeActionProvider": {"codeActionKinds": ["quickfix"]},
             "executeCommandProvider": {"commands": [KEEPS]},
         }
-        version = library.version() if library.is_there() else ""
-        return {"capabilities": capabilities, "serverInfo": {"name": "camac-lsp", **({"version": version} if version else {})}}
+        version = {"version": native.version()} if native.is_there() else {}
+        return {"capabilities": capabilities, "serverInfo": {"name": "camac-lsp", **version}}
 
     def shutdown(self, _: Params) -> None:
         self.state = "shut"
@@ -182,130 +177,132 @@ class Server:
 
     def script(self, params: Params) -> Optional[Judged]:
         """What is said of the script that a request is about; None if that is a plan."""
-        its = self.document(params)
-        return None if its.is_plan else self.workspace.judged(its)
+        document = self.document(params)
+        return None if document.is_plan else self.workspace.judged(document)
 
     def on_open(self, params: Params) -> None:
-        its = params["textDocument"]
-        text = Text(its["text"])
-        is_toml = its.get("languageId") == "toml" or its["uri"].endswith(".toml")
-        self.workspace.documents[its["uri"]] = Document(its["uri"], is_toml, its.get("version"), text)
-        self.refresh(self.workspace.documents[its["uri"]])
+        opened = params["textDocument"]
+        text = Text(opened["text"])
+        is_toml = opened.get("languageId") == "toml" or opened["uri"].endswith(".toml")
+        self.workspace.documents[opened["uri"]] = Document(opened["uri"], is_toml, opened.get("version"), text)
+        self.refresh(self.workspace.documents[opened["uri"]])
 
     def on_change(self, params: Params) -> None:
         uri = params["textDocument"]["uri"]
-        its = self.workspace.documents.get(uri)
-        if its is None:
+        document = self.workspace.documents.get(uri)
+        if document is None:
             return
-        its.text, its.version = its.text.changed(params["contentChanges"]), params["textDocument"].get("version")
-        self.refresh(its)
+        document.text, document.version = document.text.changed(params["contentChanges"]), params["textDocument"].get("version")
+        self.refresh(document)
 
     def on_close(self, params: Params) -> None:
         uri = params["textDocument"]["uri"]
-        its = self.workspace.documents.pop(uri, None)
+        document = self.workspace.documents.pop(uri, None)
         self.warned.pop(uri, None)
         self.due.pop(uri, None)
         self.faulty.discard(uri)
-        if its:
+        if document:
             self.client.notify("textDocument/publishDiagnostics", uri=uri, diagnostics=[])
-            self.refresh(its)
+            self.refresh(document)
 
-    def refresh(self, its: Document) -> None:
+    def refresh(self, document: Document) -> None:
         """Has published what is said of a document, and of all scripts if it is a plan. While more messages wait it is put off, but not for long."""
-        self.stale.setdefault(its.uri, time.monotonic())
-        for other in self.workspace.documents.values() if its.is_plan else ():
+        self.stale.setdefault(document.uri, time.monotonic())
+        for other in self.workspace.documents.values() if document.is_plan else ():
             self.stale.setdefault(other.uri, time.monotonic())
 
     def publish_stale(self) -> None:
         now = time.monotonic()
-        for uri in [uri for uri, since in self.stale.items() if self.client.is_idle() or now - since >= LONGEST]:
+        for uri in [uri for uri, since in self.stale.items() if self.client.arrived.empty() or now - since >= LONGEST]:
             del self.stale[uri]
             if uri in self.workspace.documents:
                 self.guarded(lambda it=self.workspace.documents[uri]: self.publish(it))  # type: ignore[misc]
 
-    def publish(self, its: Document) -> None:
+    def publish(self, document: Document) -> None:
         """Publishes the refusals of a document, and of an accepted script the warnings that still fit, until all are looked for."""
-        if its.is_plan:
-            is_plan = is_plan_text(its.text.data)
-            found = diagnostics.of_plan(self.workspace.judge(its.text.data), its.text) if is_plan else []
+        if document.is_plan:
+            is_plan = is_plan_text(document.text.data)
+            found = diagnostics.of_plan(self.workspace.judge(document.text.data), document.text) if is_plan else []
         else:
-            self.faulty.add(its.uri)
+            self.faulty.add(document.uri)
             try:
-                judged = self.workspace.judged(its)
+                judged = self.workspace.judged(document)
             except OSError as why:
-                found = [diagnostics.of_fault(its.text, f"the plan {why.filename} cannot be read: {why.strerror}")]
+                found = [diagnostics.of_fault(document.text, f"the plan {why.filename} cannot be read: {why.strerror}")]
             else:
-                self.faulty.discard(its.uri)
-                found = diagnostics.of_refusals(judged) or self.kept_warnings(its)
-                self.due[its.uri] = time.monotonic() + QUIET
-        self.send_diagnostics(its, found)
+                self.faulty.discard(document.uri)
+                found = diagnostics.of_refusals(judged) or self.kept_warnings(document)
+                self.due[document.uri] = time.monotonic() + QUIET
+        self.send_diagnostics(document, found)
 
-    def send_diagnostics(self, its: Document, found: List[diagnostics.Diagnostic]) -> None:
-        version = {} if its.version is None else {"version": its.version}
-        self.client.notify("textDocument/publishDiagnostics", uri=its.uri, diagnostics=found, **version)
+    def send_diagnostics(self, document: Document, found: List[diagnostics.Diagnostic]) -> None:
+        version = {} if document.version is None else {"version": document.version}
+        self.client.notify("textDocument/publishDiagnostics", uri=document.uri, diagnostics=found, **version)
 
-    def kept_warnings(self, its: Document) -> List[diagnostics.Diagnostic]:
+    def kept_warnings(self, document: Document) -> List[diagnostics.Diagnostic]:
         """The warnings of an earlier version whose lines are still there, or as much further down as the text is longer."""
-        old, warned = self.warned.get(its.uri, (its.text, []))
-        more = len(its.text.line_starts) - len(old.line_starts)
+        old, warned = self.warned.get(document.uri, (document.text, []))
+        more = len(document.text.line_starts) - len(old.line_starts)
         found = []
         for it in warned:
-            lines = [line for line in (it.line, it.line + more) if 0 < line <= len(its.text.line_starts)]
-            line = next((line for line in lines if its.text.line_of(line) == old.line_of(it.line)), None)
+            lines = [line for line in (it.line, it.line + more) if 0 < line <= len(document.text.line_starts)]
+            line = next((line for line in lines if document.text.line_of(line) == old.line_of(it.line)), None)
             if line is not None:
-                found.append(diagnostics.of_warning(it._replace(line=line), its.text))
+                found.append(diagnostics.of_warning(it._replace(line=line), document.text))
         return found
 
     def pause(self) -> None:
         """What is done between messages: warnings are looked for if nothing came for a while, and plans on the disk are looked at."""
         self.publish_stale()
         now = time.monotonic()
-        for uri in [uri for uri, due in self.due.items() if due <= now] if self.client.is_idle() else ():
+        for uri in [uri for uri, due in self.due.items() if due <= now] if self.client.arrived.empty() else ():
             del self.due[uri]
-            its = self.workspace.documents[uri]
-            if its.judged and its.judged.text is its.text:
-                self.late.give(uri, its.judged)
+            document = self.workspace.documents[uri]
+            if document.judged and document.judged.text is document.text:
+                self.late.give(uri, document.judged)
         if now - self.looked >= LOOK:
             self.look_at_plans()
 
     def look_at_plans(self) -> None:
         """Publishes anew what is said of scripts whose plan is another one than before."""
         self.looked = time.monotonic()
-        for its in [it for it in self.workspace.documents.values() if not it.is_plan]:
-            before, is_faulty = its.judged, False
+        for document in [it for it in self.workspace.documents.values() if not it.is_plan]:
+            before, is_faulty = document.judged, False
             try:
-                self.workspace.judged(its)
+                self.workspace.judged(document)
             except Exception:
                 is_faulty = True
-            if is_faulty != (its.uri in self.faulty) or its.judged is not before:
-                self.refresh(its)
+            if is_faulty != (document.uri in self.faulty) or document.judged is not before:
+                self.refresh(document)
         self.publish_stale()
 
     def publish_late(self, own: Message) -> None:
         """Publishes a script's warnings, if it is still their version."""
-        its = self.workspace.documents.get(own["uri"])
-        if its is None or its.judged is not own["judged"] or its.text is not its.judged.text:
+        document = self.workspace.documents.get(own["uri"])
+        if document is None or document.judged is not own["judged"] or document.text is not document.judged.text:
             return
-        self.warned[its.uri] = its.text, own["found"]
-        if not diagnostics.of_refusals(its.judged):
-            self.send_diagnostics(its, [diagnostics.of_warning(it, its.text) for it in own["found"]])
+        self.warned[document.uri] = document.text, own["found"]
+        if not diagnostics.of_refusals(document.judged):
+            self.send_diagnostics(document, [diagnostics.of_warning(it, document.text) for it in own["found"]])
 
-    def tell_choice(self, its: Document, choice: Choice) -> None:
-        self.client.log(f"camac: {its.uri.rpartition('/')[2]} is judged on the plan {choice.file}: {choice.why}")
+    def tell_choice(self, document: Document, choice: Choice) -> None:
+        self.client.log(f"camac: {document.uri.rpartition('/')[2]} is judged on the plan {choice.file}: {choice.why}")
 
     # Requests
 
     def on_hover(self, params: Params) -> Any:
-        its = self.document(params)
-        if its.is_plan:
+        from camac.lsp.hover import hover
+
+        document = self.document(params)
+        if document.is_plan:
             return None
-        judged = self.workspace.judged(its)
-        text = hover(judged, judged.text.place(params["position"]), its.choice or Choice("", ""))
-        if text is None:
-            return None
-        return {"contents": {"kind": "markdown", "value": text.text}, "range": judged.text.range(text.start, text.end)}
+        judged = self.workspace.judged(document)
+        found = hover(judged, judged.text.place(params["position"]), document.choice or Choice("", ""))
+        return found and {"contents": {"kind": "markdown", "value": found[0]}, "range": judged.text.range(*found[1:])}
 
     def on_completion(self, params: Params) -> Any:
+        from camac.lsp.completion import complete
+
         judged = self.script(params)
         return complete(judged, judged.text.place(params["position"])) if judged else []
 
@@ -317,10 +314,10 @@ class Server:
 
     def locations(self, params: Params, is_fit: Callable[[Mention], bool] = lambda _: True) -> List[Any]:
         """The places of the name at a position that fit."""
-        its = self.named(params)
-        if its is None:
+        named = self.named(params)
+        if named is None:
             return []
-        judged, mention = its
+        judged, mention = named
         found = [it for it in judged.names.of(mention.symbol) if is_fit(it)]
         return [{"uri": params["textDocument"]["uri"], "range": judged.text.range(it.start, it.end)} for it in found]
 
@@ -329,37 +326,45 @@ class Server:
         return self.locations(params, lambda it: with_declarations or not it.declares)
 
     def on_prepare_rename(self, params: Params) -> Any:
-        its = self.named(params)
-        return its[0].text.range(its[1].start, its[1].end) if its else None
+        named = self.named(params)
+        return named[0].text.range(named[1].start, named[1].end) if named else None
 
     def on_rename(self, params: Params) -> Any:
-        its = self.named(params)
-        if its is None:
+        from camac.lsp.symbols import renamed
+
+        named = self.named(params)
+        if named is None:
             raise ResponseError(FAILED, "there is no name here")
-        return self.workspace_edit(params["textDocument"]["uri"], its[0], symbols.renamed(*its, params["newName"]))
+        return self.workspace_edit(params["textDocument"]["uri"], named[0], renamed(*named, params["newName"]))
 
     def workspace_edit(self, uri: str, judged: Judged, edits: Sequence[Edit]) -> Any:
         return {"changes": {uri: judged.text.edits(edits)}}
 
     def on_symbols(self, params: Params) -> Any:
-        its = self.document(params)
-        return symbols.symbols_of_plan(its.text) if its.is_plan else symbols.symbols_of_script(self.workspace.judged(its))
+        from camac.lsp import symbols
+
+        document = self.document(params)
+        return symbols.symbols_of_plan(document.text) if document.is_plan else symbols.symbols_of_script(self.workspace.judged(document))
 
     def on_folds(self, params: Params) -> Any:
-        its = self.document(params)
-        return list(symbols.folds(its.text, its.is_plan))
+        from camac.lsp import symbols
+
+        document = self.document(params)
+        return list(symbols.folds(document.text, document.is_plan))
 
     def on_formatting(self, params: Params) -> Any:
-        its = self.document(params)
-        if its.is_plan:
+        document = self.document(params)
+        if document.is_plan:
             return []
         try:
-            made = formatted(its.text.data)
+            made = formatted(document.text.data)
         except LayoutFault as fault:
             raise ResponseError(FAILED, f"line {fault.line}: {fault}") from None
-        return its.text.edits(between(its.text.data, made))
+        return document.text.edits(between(document.text.data, made))
 
     def on_actions(self, params: Params) -> Any:
+        from camac.lsp import actions
+
         judged = self.script(params)
         if judged is None:
             return []
@@ -374,16 +379,18 @@ class Server:
             made.append({"title": title, "kind": "quickfix", "command": {"title": title, "command": KEEPS, "arguments": [uri]}})
         return made
 
-    def action(self, uri: str, judged: Judged, it: actions.Fix, shown: List[Any]) -> Any:
+    def action(self, uri: str, judged: Judged, it: "Fix", shown: List[Any]) -> Any:
         fixed = [one for one in shown if one.get("code") == it.code]
         return {"title": it.title, "kind": "quickfix", "edit": self.workspace_edit(uri, judged, it.edits), **({"diagnostics": fixed} if fixed else {})}
 
     def on_command(self, params: Params) -> Any:
         if params["command"] != KEEPS:
             raise ResponseError(INVALID_PARAMS, f"there is no `{params['command']}`")
+        from camac.lsp.actions import kept
+
         uri = params["arguments"][0]
         judged = self.script({"textDocument": {"uri": uri}})
-        found = actions.kept(judged) if judged else []
+        found = kept(judged) if judged else []
         if not found or judged is None:
             self.client.notify("window/showMessage", type=INFO, message="camac: nothing is found that helps the loops of this script")
             return None
@@ -398,9 +405,8 @@ def between(old: bytes, new: bytes) -> List[Edit]:
     if old == new:
         return []
     before, after = old.splitlines(True), new.splitlines(True)
-    head = next((at for at, (one, other) in enumerate(zip(before, after)) if one != other), min(len(before), len(after)))
-    tails = zip(reversed(before[head:]), reversed(after[head:]))
-    tail = next((at for at, (one, other) in enumerate(tails) if one != other), min(len(before), len(after)) - head)
+    head = len(os.path.commonprefix([before, after]))
+    tail = len(os.path.commonprefix([before[head:][::-1], after[head:][::-1]]))
     start = sum(map(len, before[:head]))
     end = len(old) - sum(map(len, before[len(before) - tail :]))
     return [Edit(start, end, b"".join(after[head : len(after) - tail]).decode("utf-8", "surrogatepass"))]

@@ -9,7 +9,7 @@ from camac.lsp.protocol import FAILED, ResponseError
 from camac.lsp.workspace import Judged
 from camac.names import SCRIPT, Mention, fault_of_new_name
 from camac.printed import without_name
-from camac.toml_places import Table, read_places, tables
+from camac.toml_places import Value, read_places
 
 # Kinds of symbols, as the protocol numbers them.
 EVENT, FUNCTION, VARIABLE, CONSTANT, OBJECT, STRUCT, KEY = 24, 12, 13, 14, 19, 23, 20
@@ -40,21 +40,19 @@ def _item(text: Text, name: str, kind: int, start: int, end: int, begin: int, st
 
 def symbols_of_plan(text: Text) -> List[Item]:
     root = read_places(text.text)
-    found = [_of_table(text, it, "type", "name") for it in tables(root, "type")]
-    for it in tables(root, "crate"):
+    found = [_of_table(text, it, "type", "name") for it in root.tables("type")]
+    for it in root.tables("crate"):
         item = _of_table(text, it, "crate", "number")
-        item["children"] = [_of_table(text, one, "station", "n") for one in tables(it, "station")]
+        item["children"] = [_of_table(text, one, "station", "n") for one in it.tables("station")]
         found.append(item)
     return found
 
 
-def _of_table(text: Text, it: Table, what: str, key: str) -> Item:
-    its = it.value.get(key)
-    values = [one.value.place for one in it.value.values()]
+def _of_table(text: Text, it: Value, what: str, key: str) -> Item:
     # A table ends with its last value.
-    start, end = it.place.start, max([it.place.end, *(one.end for one in values)])
+    start, end = it.place.start, max([it.place.end, *(one.place.end for one in it.value.values())])
     start, end = (len(text.text[:one].encode("utf-8", "surrogatepass")) for one in (start, end))
-    return _item(text, f"{what} {its.value.value if its else '?'}", STRUCT, start, end, start, end)
+    return _item(text, f"{what} {it.at(key) if key in it.value else '?'}", STRUCT, start, end, start, end)
 
 
 def folds(text: Text, is_plan: bool) -> Iterator[Item]:

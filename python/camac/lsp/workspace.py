@@ -1,23 +1,25 @@
 """The open documents, and the plan on which each script is judged."""
 import contextlib
 import functools
+import itertools
 import os
-import pathlib
 import re
-import tempfile
 from functools import cached_property
-from typing import Any, Callable, Dict, List, NamedTuple, Optional, Tuple, TypeVar
-from urllib.parse import unquote, urlsplit
+from typing import TYPE_CHECKING, Any, Callable, Dict, List, NamedTuple, Optional, Tuple, TypeVar
 
 from camac.lsp.documents import Text
 from camac.names import Names
 from camac.printed import read_plan
 from camac.program import Verdict, explain_plan, output_of, quickest, verdict
 from camac.texts import GREATEST_TEXT, SAMPLE, TextFile, plan_text, read_regular
-from camac.toml_places import with_commands
 from camac.values import Plan
 
+if TYPE_CHECKING:
+    import pathlib
+    import tempfile
+
 T = TypeVar("T")
+NUMBERS = itertools.count()
 # The first line of a script may name its plan.
 NAMED = re.compile(r"#\s*plan:\s*(\S+)", re.I)
 PLAN_LIKE = re.compile(rb"^\s*\[\[\s*(?:type|crate)\b|^\s*(?:type|crate)\s*=|^#:schema\s.*plan\.schema\.json", re.M)
@@ -38,7 +40,7 @@ def is_plan_text(data: bytes) -> bool:
     return PLAN_LIKE.search(data) is not None
 
 
-def choose(first_line: str, path: Optional[pathlib.Path]) -> Choice:
+def choose(first_line: str, path: "Optional[pathlib.Path]") -> Choice:
     """The plan of a script: the one that its first line names, else the one plan beside it, else the built-in one. Of several plans beside it
     plan.toml is taken."""
     named = NAMED.match(first_line)
@@ -47,9 +49,9 @@ def choose(first_line: str, path: Optional[pathlib.Path]) -> Choice:
     if path is None:
         return Choice(SAMPLE, "the script is no file")
     if named:
-        its = [path.parent / named[1], path.parent / named[1].rstrip(".,;")]
-        return Choice(str(next((it for it in its if it.is_file()), its[0])), "the first line names it")
-    plans: List[pathlib.Path] = []
+        files = [path.parent / named[1], path.parent / named[1].rstrip(".,;")]
+        return Choice(str(next((it for it in files if it.is_file()), files[0])), "the first line names it")
+    plans: "List[pathlib.Path]" = []
     # A name with a NUL is none of a file.
     with contextlib.suppress(OSError, ValueError):
         plans = [it for it in sorted(path.parent.glob("*.toml")) if _is_plan(str(it), it.stat().st_mtime_ns)]
@@ -71,29 +73,28 @@ class Judge:
 
     def __init__(self, data: bytes, room: str) -> None:
         self.data, self.program = data, quickest()
-        descriptor, path = tempfile.mkstemp(".toml", "plan-", room)
-        self.file = TextFile(path, is_plan=True)
-        with open(descriptor, "wb") as out:
+        self.file = TextFile(os.path.join(room, f"plan-{next(NUMBERS)}.toml"), is_plan=True)
+        with open(self.file, "wb") as out:
             out.write(data)
 
-    def ask(self, command: str, script: bytes, at: Optional[Tuple[int, int]] = None) -> Verdict:
+    def ask(self, command: str, script: Optional[bytes], at: Optional[Tuple[int, int]] = None) -> Verdict:
         """What a subcommand says of a script; with line and column (from 1, in bytes) what is known before the statement there."""
-        if max(len(script), len(self.data)) > GREATEST_TEXT:
+        if max(len(script or b""), len(self.data)) > GREATEST_TEXT:
             return Verdict(False, "fault input too long\n")
-        return verdict(command, self.file, script, self.program, at)
+        return explain_plan(self.file, self.program) if script is None else verdict(command, self.file, script, self.program, at)
 
     @cached_property
     def explained(self) -> Verdict:
         """What `camac explain` says of the plan alone."""
-        if len(self.data) > GREATEST_TEXT:
-            return Verdict(False, "fault input too long\n")
-        return explain_plan(self.file, self.program)
+        return self.ask("explain", None)
 
     @cached_property
     def plan(self) -> Plan:
         """The crates of the plan, and the commands of its modules; of a refused plan nothing."""
         if not self.explained.accepted:
             return Plan(0, {}, ())
+        from camac.toml_places import with_commands
+
         found = read_plan(output_of("plan", "--", self.file, program=self.program))
         return with_commands(found, self.data.decode("utf-8", "replace"))
 
@@ -133,9 +134,12 @@ class Document:
     """An open text, and its path if it is that of a file. Of a script `choice` is its plan, and `judged` what is said of it."""
 
     def __init__(self, uri: str, is_plan: bool, version: Optional[int], text: Text) -> None:
+        import pathlib
+        from urllib.parse import unquote, urlsplit
+
         self.uri, self.is_plan, self.version, self.text = uri, is_plan, version, text
-        its = urlsplit(uri)
-        self.path = pathlib.Path(unquote(its.path)) if its.scheme == "file" else None
+        parts = urlsplit(uri)
+        self.path = pathlib.Path(unquote(parts.path)) if parts.scheme == "file" else None
         self.choice: Optional[Choice] = None
         self.judged: Optional[Judged] = None
 
@@ -145,9 +149,14 @@ class Workspace:
 
     def __init__(self, on_choice: Callable[[Document, Choice], None]) -> None:
         self.documents: Dict[str, Document] = {}
-        self.room = tempfile.TemporaryDirectory(prefix="camac-lsp-")
         self.judges: Dict[bytes, Judge] = {}
         self.on_choice = on_choice
+
+    @cached_property
+    def room(self) -> "tempfile.TemporaryDirectory[str]":
+        import tempfile
+
+        return tempfile.TemporaryDirectory(prefix="camac-lsp-")
 
     def judged(self, document: Document) -> Judged:
         """What is said of a script as it is, on its plan as that is: in the editor, if it is open, else on the disk. Raises OSError if its plan
@@ -162,9 +171,9 @@ class Workspace:
         return document.judged
 
     def plan_data(self, choice: Choice) -> bytes:
-        path = pathlib.Path(choice.file)
+        path = os.path.abspath(choice.file)
         for it in self.documents.values():
-            if it.is_plan and it.path and it.path.absolute() == path.absolute():
+            if it.is_plan and it.path and os.path.abspath(it.path) == path:
                 return it.text.data
         if choice.file == SAMPLE:
             return plan_text(SAMPLE)
@@ -180,4 +189,5 @@ class Workspace:
         return self.judges[data]
 
     def close(self) -> None:
-        self.room.cleanup()
+        if "room" in vars(self):
+            self.room.cleanup()

@@ -119,10 +119,8 @@ def _product(times: int, of: Response) -> str:
 
 
 def _latest_call(of: Response, first: int, lower: Sequence[Response]) -> Tuple[int, int]:
-    """Which call of a stretch waits longest, and after how many cycles of the stretch it begins. `first` are the cycles of the service that
-    may be in progress.
-
-    Raises ValueError if no call of a stretch waits so long as the program says."""
+    """Which call of a stretch waits longest, and after how many cycles of the stretch it begins. `first` are the cycles of the service that may be in
+    progress. Raises ValueError if no call of a stretch waits so long as the program says."""
     begins, longest = 0, of.longest or 0
     for call in range(1, of.calls(longest) + 1):
         before = first + (call - 1) * of.cycles

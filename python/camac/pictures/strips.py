@@ -51,7 +51,7 @@ class _Strip:
         """Draws all, and returns where the strip ends."""
         for operation in operations:
             if isinstance(operation, Unlock):
-                self.bracket(operation.crate, self.locks.pop(operation.crate, self.x))
+                self.bracket(self.locks.pop(operation.crate, self.x))
                 continue
             self.make_room(CELL + WAIT * min(operation.wait, MOST_WAIT_CELLS))
             self.draw_wait(operation.wait)
@@ -60,21 +60,21 @@ class _Strip:
                 self.label = None
             else:
                 self.draw_cycle(operation)
-        for crate, begin in self.locks.items():
-            self.bracket(crate, begin)
+        for begin in self.locks.values():
+            self.bracket(begin)
         return self.y + ROW
 
     def make_room(self, width: float) -> None:
         """Begins a new row where so much does not fit; a lock goes on there."""
         if self.x + width <= WIDTH - 4:
             return
-        for crate, begin in self.locks.items():
-            self.bracket(crate, begin)
-        self.locks = {crate: 0.0 for crate in self.locks}
+        for begin in self.locks.values():
+            self.bracket(begin)
+        self.locks = dict.fromkeys(self.locks, 0.0)
         self.x, self.y = 0.0, self.y + ROW
         self.label, self.label_ends = None, [-99.0, -99.0]
 
-    def bracket(self, crate: int, begin: float) -> None:
+    def bracket(self, begin: float) -> None:
         end = max(self.x - 2, begin + 2)
         self.canvas.path(f"M{number(begin)} {number(self.y + 20)}v4H{number(end)}v-4", "l-lock thick")
 

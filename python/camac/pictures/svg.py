@@ -6,21 +6,10 @@ from typing import Callable, Dict, Iterable, List, Optional, Sequence, Tuple, Un
 WIDTH = 960
 # Of each name the colour in the light and in the dark theme. Text has a contrast of 4.5 or more (WCAG 2).
 COLOURS: Dict[str, Tuple[str, str]] = {
-    "ground": ("#ffffff", "#16191d"),
-    "face": ("#f3f5f7", "#20262c"),
-    "grid": ("#d0d7de", "#3c444d"),
-    "ink": ("#1b1f24", "#e6e8ea"),
-    "mute": ("#57606a", "#a9b1ba"),
-    "ours": ("#2a66ad", "#6aa9ea"),
-    "read": ("#2a66ad", "#6aa9ea"),
-    "waits": ("#b75a00", "#f0a04b"),
-    "slack": ("#66707a", "#8b96a1"),
-    "write": ("#7b3fa0", "#c59be8"),
-    "control": ("#3f7332", "#8cc474"),
-    "controller": ("#57606a", "#a9b1ba"),
-    "lock": ("#806400", "#d9bd45"),
-    "noq": ("#0b7a75", "#4fc7c0"),
-    "nox": ("#c0182b", "#ff7b7b"),
+    "ground": ("#ffffff", "#16191d"), "face": ("#f3f5f7", "#20262c"), "grid": ("#d0d7de", "#3c444d"), "ink": ("#1b1f24", "#e6e8ea"),
+    "mute": ("#57606a", "#a9b1ba"), "ours": ("#2a66ad", "#6aa9ea"), "read": ("#2a66ad", "#6aa9ea"), "waits": ("#b75a00", "#f0a04b"),
+    "slack": ("#66707a", "#8b96a1"), "write": ("#7b3fa0", "#c59be8"), "control": ("#3f7332", "#8cc474"), "controller": ("#57606a", "#a9b1ba"),
+    "lock": ("#806400", "#d9bd45"), "noq": ("#0b7a75", "#4fc7c0"), "nox": ("#c0182b", "#ff7b7b"),
 }
 LIGHT, DARK = 0, 1
 SANS = "system-ui, 'DejaVu Sans', Verdana, sans-serif"

@@ -31,10 +31,7 @@ class Report(NamedTuple):
 
 
 def report(
-    inputs: Inputs,
-    program: Optional[File] = None,
-    every: Optional[Mapping[str, int]] = None,
-    naming: Naming = Naming(),
+    inputs: Inputs, program: Optional[File] = None, every: Optional[Mapping[str, int]] = None, naming: Naming = Naming(),
     survey: Optional[File] = None,
 ) -> Report:
     """Makes the page of a run, or of the refusal of plan or script. `every` are the rates of modules, as `camac.response` takes them; `naming`
@@ -58,29 +55,14 @@ def report(
         found, sha256 = read_summary(survey), hashlib.sha256(plan_text(inputs.plan)).hexdigest()
         run.checks.append(Check(f"crates and plan: {'; '.join([found.line(sha256), *found.differences])}", found.is_good(sha256)))
     facts = sections.Facts(inputs, told(program), plan, services, source_lines(inputs.script), bodies, responses, run)
-    parts = [
-        sections.tiles(run),
-        sections.last_line(run),
-        sections.bounds(facts),
-        sections.late(facts),
-        sections.cost(facts),
-        sections.plan(facts),
-        sections.run_section(facts),
-        sections.histograms(facts),
-        sections.services(facts),
-        sections.checks(facts),
-    ]
-    text = page(f"{sections.base_name(inputs.script)}: report", sections.head(facts), parts)
+    text = page(f"{sections.base_name(inputs.script)}: report", sections.head(facts), [it(facts) for it in sections.PARTS])
     return Report(text, 0 if run.agrees() and run.is_good() else 1)
 
 
 def _shares_check(bodies: List[Body]) -> Check:
     """Whether the shares of each body's statements add up to its bound."""
-    differ = [
-        f"{body.kind.value} {body.name}"
-        for body in bodies
-        if any(sum(row.share[k] for row in body.rows) != body.most[k] for k in range(3))
-    ]
+    wrong = [body for body in bodies if any(sum(row.share[k] for row in body.rows) != body.most[k] for k in range(3))]
+    differ = [f"{body.kind.value} {body.name}" for body in wrong]
     text = f"the shares of the lines add up to the bounds ({len(bodies)} bodies; cycles, words and steps)"
     return Check(text + (f", but for {', '.join(differ)}" if differ else ""), not differ)
 

@@ -19,16 +19,10 @@ from camac.pictures.timeline import draw_run
 from camac.report.page import KEYS, Cell, Column, Row, figure, folded, header, panels, region_table, table
 from camac.runs import Inputs, Kept, Run, Why
 
-SECTIONS = (
-    ("bounds", "Bounds"),
-    ("late", "How late"),
-    ("cost", "Cost by line"),
-    ("plan", "Plan"),
-    ("run", "Run"),
-    ("histograms", "Histograms"),
-    ("services", "Services"),
-    ("checks", "Checks"),
-)
+SECTIONS = {
+    "bounds": "Bounds", "late": "How late", "cost": "Cost by line", "plan": "Plan", "run": "Run", "histograms": "Histograms", "services": "Services",
+    "checks": "Checks",
+}
 ENDS = {
     Ending.ENDED: "the answers were used up at a demand",
     Ending.SHORT: "the answers were used up inside a service, which left no event",
@@ -69,15 +63,11 @@ def base_name(path: File) -> str:
 
 def head(facts: Facts) -> str:
     """The script's name, what the page is made of, and the way to its sections."""
-    word = "answers" if facts.run.has_listing else "events"
-    files = "; ".join(
-        f"{word} <code>{escape(base_name(path))}</code> {_digest(path)}" for word, path in zip(("plan", "script", word), facts.inputs)
-    )
-    links = "".join(f'<a href="#{name}">{word}</a>' for name, word in SECTIONS)
-    return header(
-        base_name(facts.inputs.script),
-        [f'<p class="mute">{files} (the first digits of each SHA-256); {escape(facts.version)}</p><nav>{links}</nav>'],
-    )
+    names = zip(("plan", "script", "answers" if facts.run.has_listing else "events"), facts.inputs)
+    files = "; ".join(f"{word} <code>{escape(base_name(path))}</code> {_digest(path)}" for word, path in names)
+    links = "".join(f'<a href="#{name}">{word}</a>' for name, word in SECTIONS.items())
+    text = f'<p class="mute">{files} (the first digits of each SHA-256); {escape(facts.version)}</p><nav>{links}</nav>'
+    return header(base_name(facts.inputs.script), [text])
 
 
 def _digest(path: File) -> str:
@@ -91,7 +81,8 @@ def _digest(path: File) -> str:
     return total.hexdigest()[:12]
 
 
-def tiles(run: Run) -> str:
+def tiles(facts: Facts) -> str:
+    run = facts.run
     cycles, waits, missed = total(run.cycles), total(run.waits), total(run.no_x)
     shown = [(len(run.gl), "events", "")]
     if run.has_cycles:
@@ -110,8 +101,9 @@ def tiles(run: Run) -> str:
     return f'<div class="tiles">{"".join(drawn)}</div>'
 
 
-def last_line(run: Run) -> str:
+def last_line(facts: Facts) -> str:
     """How the run ended, and what that means."""
+    run = facts.run
     if run.end:
         meaning, is_good = ENDS[run.end.how], run.end.how is Ending.ENDED
     elif run.fault:
@@ -247,10 +239,7 @@ def _strips(facts: Facts) -> List[str]:
         if len(chosen) < MOST_STRIPS:
             chosen.setdefault(kept.number, kept)
     last = list(chosen)[-1]
-    return [
-        figure(draw_strip(kept, facts.service(kept.gl), ", ".join(reasons[number]), has_legend=number == last))
-        for number, kept in chosen.items()
-    ]
+    return [figure(draw_strip(it, facts.service(it.gl), ", ".join(reasons[at]), has_legend=at == last)) for at, it in chosen.items()]
 
 
 def _commands_table(facts: Facts) -> str:
@@ -311,3 +300,7 @@ def checks(facts: Facts) -> str:
         "every list of answers, as long as auxiliary controllers keep to the waits of the plan and the program is the proved one; "
         f"this was {escape(facts.version)}. What was seen is of this run alone.</p>"
     )
+
+
+# All parts, in their order.
+PARTS = (tiles, last_line, bounds, late, cost, plan, run_section, histograms, services, checks)

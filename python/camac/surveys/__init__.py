@@ -115,14 +115,8 @@ class Survey(NamedTuple):
 
 
 def survey(
-    plan: File,
-    branch: Union[Branch, str],
-    *,
-    functions: Sequence[int] = FUNCTIONS,
-    has_empty: bool = False,
-    program: Optional[File] = None,
-    timeout: Optional[float] = None,
-    tell: Optional[Callable[[str], None]] = None,
+    plan: File, branch: Union[Branch, str], *, functions: Sequence[int] = FUNCTIONS, has_empty: bool = False, program: Optional[File] = None,
+    timeout: Optional[float] = None, tell: Optional[Callable[[str], None]] = None,
 ) -> Survey:
     """Asks the modules of a plan by checked scripts, and compares their answers with the plan. `plan` may be "@sample", and `branch` the name of a
     driver (`camac.driver`).

@@ -106,10 +106,8 @@ def service(lam: Tuple[int, int, int], cycles: int, body: Iterable[str]) -> str:
 
 
 def ask(script: Script, branch: Branch, program: Optional[File] = None, timeout: Optional[float] = None) -> Asked:
-    """Has the branch make a script, if the program accepts it. What the branch raises, and a wait that the plan does not permit, is the fault of
-    what is returned.
-
-    Raises what `camac.call` raises."""
+    """Has the branch make a script, if the program accepts it. What the branch raises, and a wait that the plan does not permit, is the fault of what
+    is returned. Raises what `camac.call` raises."""
     watched = _Watched(branch)
     with tempfile.TemporaryDirectory(prefix="camac-") as room:
         plan, text = os.path.join(room, "plan.toml"), os.path.join(room, "asked.script")

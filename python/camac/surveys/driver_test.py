@@ -62,9 +62,9 @@ class _Bench(NamedTuple):
         return Script(name, plan, text, 1, cycles)
 
 
-def find_bench(plan: File, register: Tuple[int, int, int], program: Optional[File] = None) -> _Bench:
+def find_bench(plan: File, register: Tuple[int, int, int]) -> _Bench:
     """Raises UsageFault if the plan declares no F0 and F16 at crate, station and sub-address of the register."""
-    listed, (c, n, a) = declared_plan(plan, program), register
+    listed, (c, n, a) = declared_plan(plan, None), register
     kind = listed.type_at(c, n)
     widths = {it.function: it.width or 24 for it in (kind.declarations if kind else ()) if it.first <= a <= it.last and not it.is_probe}
     if not {READ, WRITE} <= widths.keys():
@@ -74,18 +74,15 @@ def find_bench(plan: File, register: Tuple[int, int, int], program: Optional[Fil
     return _Bench(crate, n, a, min(widths[READ], widths[WRITE]), empty[0] if empty else None)
 
 
-def test_driver(
-    plan: File, branch: Branch, register: Tuple[int, int, int], program: Optional[File] = None, timeout: Optional[float] = None
-) -> Tuple[List[Finding], List[Asked]]:
+def test_driver(plan: File, branch: Branch, register: Tuple[int, int, int]) -> Tuple[List[Finding], List[Asked]]:
     """Tests a driver by checked scripts at a register of the plan that F16 writes and F0 reads, by crate, station and sub-address. Returns what was found,
     and the scripts with what they made.
 
     Bits walk through the register, and its word is written back. F0 and F8 go to a station without a module. Where the plan has waits, a lockout is
-    taken and released. Z and C go to the crate, which clear its modules; at the end inhibit is off and the demand output on.
-
-    Raises as `find_bench`, and what `camac.call` raises."""
-    bench = find_bench(plan, register, program)
-    asked = [ask(it, branch, program, timeout) for it in _scripts(bench)]
+    taken and released. Z and C go to the crate, which clear its modules; at the end inhibit is off and the demand output on. Raises as `find_bench`,
+    and what `camac.call` raises."""
+    bench = find_bench(plan, register)
+    asked = [ask(it, branch) for it in _scripts(bench)]
     return [it for one in asked for it in _findings(bench, one)] + list(_not_tried(bench)), asked
 
 

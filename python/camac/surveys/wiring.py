@@ -46,31 +46,31 @@ class Wire(NamedTuple):
         return f"crate {self.crate} station {self.station} ({self.type}): {said}"
 
 
-def wires(plan: File, branch: Branch, agree: Optional[Agree] = None, program: Optional[File] = None, timeout: Optional[float] = None) -> Iterator[Wire]:
+def wires(plan: File, branch: Branch, agree: Optional[Agree] = None) -> Iterator[Wire]:
     """Raises the look-at-me of each station that has a bit in the plan, one after another, and yields which bits came. It sends F26, F10 and F24 to
     the address of the look-at-me, F25 and F8, as far as the plan declares them, and takes the inhibit of the crate away. At the end the look-at-me
     is cleared and disabled.
 
     `agree` is asked before each F25, which may also start something. Where the plan declares none, or it raises nothing, `agree` is asked to have the
     look-at-me raised by hand. Without it all F25 are sent, and nothing is done by hand. Raises what `camac.call` raises."""
-    listed, text = declared_plan(plan, program), plan_text(plan).decode("utf-8", "replace")
+    listed, text = declared_plan(plan, None), plan_text(plan).decode("utf-8", "replace")
     for _, crate, station in listed.demands():
         at = _Station(listed, crate, station, text)
         wire = at.wire("", fault="its type declares no F8") if at.lam is None else None
         if wire is None and at.execute is not None and (agree is None or agree(f"Enter sends F25 A{at.execute} to {at.place()}, to raise its look-at-me")):
-            wire = _try(at, "F25", None, branch, program, timeout)
+            wire = _try(at, "F25", None, branch)
         if agree and (wire is None or not (wire.is_raised or wire.fault)):
-            wire = _try(at, "by hand", agree, branch, program, timeout) or wire
+            wire = _try(at, "by hand", agree, branch) or wire
         yield wire or at.wire("", fault="F25 was not sent, and nobody raised the look-at-me by hand")
 
 
-def _try(at: "_Station", how: str, by_hand: Optional[Agree], branch: Branch, program: Optional[File], timeout: Optional[float]) -> Optional[Wire]:
+def _try(at: "_Station", how: str, by_hand: Optional[Agree], branch: Branch) -> Optional[Wire]:
     """Raises a look-at-me, and sees what comes; None if nobody raised it."""
-    begun = ask(at.ready(by_hand is None), branch, program, timeout)
+    begun = ask(at.ready(by_hand is None), branch)
     if not begun.fault and by_hand and not by_hand(f"raise the look-at-me of {at.place()}, then Enter"):
-        ask(at.look(0), branch, program, timeout)
+        ask(at.look(0), branch)
         return None
-    seen = begun if begun.fault else ask(at.look(), branch, program, timeout)
+    seen = begun if begun.fault else ask(at.look(), branch)
     if seen.fault:
         return at.wire(how, fault=seen.fault)._replace(asked=(begun, seen))
     before, after = ([answer.gl for command, answer in it.cycles() if command.station == CONTROLLER and command.function == 0][-1] for it in (begun, seen))

@@ -41,12 +41,13 @@ def look(plan: File, script: File, program: Optional[File] = None) -> Tuple[List
 def look_at(plan: File, text: bytes, told: str, responses: Sequence[Response], program: Optional[File] = None) -> Tuple[List[Service], List[Warned]]:
     """What `look` returns of an accepted script that is given as its text, with what `tell`, or `check`, prints of it, and the answers of
     `response`."""
-    its = read_script(text)
+    parsed = read_script(text)
     services = read_services(told)
-    bodies = costs_with_arms(plan, text, its, told, program)
+    bodies = costs_with_arms(plan, text, parsed, told, program)
     if not services:
         return [], [Warned(1, Code.NO_SERVICE, "this script has no service, so a run of it makes no cycle")]
-    found = [*Silent(plan, text, its, bodies, program).found(), *_unkept(its, responses), *_held_up(its, services), *_loose(plan, text, its, program)]
+    silent = Silent(plan, text, parsed, bodies, program).found()
+    found = [*silent, *_unkept(parsed, responses), *_held_up(parsed, services), *_loose(plan, text, parsed, program)]
     return services, sorted(found, key=lambda it: (it.line, it.code.value))
 
 
@@ -65,7 +66,7 @@ def _unkept(script: Script, responses: Sequence[Response]) -> Iterator[Warned]:
         if any(isinstance(one, Plain) and (one.word == "cccz" or one.word == "call" and one.name in starting) for one in it.every):
             starting.add(it.name)
     if any(it.name not in starting for it in responses):
-        yield from (Warned(it.line, Code.UNKEPT, UNKEPT[it.why].format(it.name, it.other)) for its in responses for it in its.unkept)
+        yield from (Warned(it.line, Code.UNKEPT, UNKEPT[it.why].format(it.name, it.other)) for late in responses for it in late.unkept)
 
 
 def _held_up(script: Script, services: List[Service]) -> Iterator[Warned]:
@@ -86,15 +87,5 @@ def _loose(plan: File, text: bytes, script: Script, program: Optional[File]) -> 
     # It takes as long to load as all other warnings.
     from camac.loops.loose import dear_loops, wide_keeps
 
-    for wide in wide_keeps(plan, text, script.bodies, program):
-        if wide.least is None:
-            yield Warned(wide.line, Code.UNUSED_KEEP, f"this kept bound of `{wide.name}` is not needed: the script is accepted without it", wide.edits)
-        else:
-            its = "{}..{}".format(*wide.least)
-            said = f"this kept bound of `{wide.name}` is wider than it has to be: `{wide.name} in {its}` is accepted, too"
-            yield Warned(wide.line, Code.WIDE_KEEP, said, wide.edits)
-    for dear in dear_loops(plan, text, script.bodies, program):
-        its_bounds = zip(dear.after, dear.before, ("cycles", "words"))
-        less = " and ".join(f"{after} {word} in place of {before}" for after, before, word in its_bounds if after != before)
-        said = f"judged turn by turn (`each`), this loop has a lower bound: `{dear.name}` then takes {less}"
-        yield Warned(dear.line, Code.EACH, said, (dear.edit,))
+    yield from wide_keeps(plan, text, script.bodies, program)
+    yield from dear_loops(plan, text, script.bodies, program)

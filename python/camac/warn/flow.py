@@ -1,10 +1,10 @@
 """What may have set each name of a body where it is used, and what it then is: one pass over its statements, in the order of the text."""
 import enum
-import operator
-from typing import AbstractSet, Callable, Dict, FrozenSet, List, Mapping, Sequence, Set, Tuple, Union
+from typing import AbstractSet, Dict, FrozenSet, List, Mapping, Sequence, Set, Tuple, Union
 
 from camac.tree import (
-    Assign, Body, Cycle, Expression, For, If, Lock, Loop, Name, Number, Plain, SetRegister, Statement, Transfer, While, names_in, written_by,
+    OPERATIONS, Assign, Body, Cycle, Expression, For, If, Lock, Loop, Name, Number, Plain, SetRegister, Statement, Transfer, While, names_in,
+    written_by,
 )
 from camac.values import Row
 
@@ -12,7 +12,6 @@ from camac.values import Row
 FLAGS = "q"
 # Of a quotient by so much or less the checker is not asked whether it is one number: few registers are so narrow.
 SMALL = 15
-OPERATIONS: Dict[str, Callable[[int, int], int]] = {"+": operator.add, "-": operator.sub, "*": operator.mul, "/": operator.floordiv, "%": operator.mod}
 
 
 class Some(enum.Enum):
@@ -106,10 +105,10 @@ class Flow:
         elif isinstance(it, Assign) or is_put(it):
             self.value[it] = self.value_of(it.expressions[0])
         for name in names:
-            its = self.now[name]
-            self.used |= its
-            if not is_set(its) and self.row[it].times:
-                self.uses.append((it, name, its))
+            settings = self.now[name]
+            self.used |= settings
+            if not is_set(settings) and self.row[it].times:
+                self.uses.append((it, name, settings))
 
     def value_of(self, it: Expression) -> Value:
         if isinstance(it, Number):
@@ -135,10 +134,10 @@ class Flow:
     def make(self, it: Statement) -> None:
         """A statement without a block that sets no register."""
         if isinstance(it, Plain) and it.word == "call":
-            its = self.flows[it.name]
-            if EARLIER in its.used:
+            flow = self.flows[it.name]
+            if EARLIER in flow.used:
                 self.used |= self.now[FLAGS]
-            if its.makes_cycles:
+            if flow.makes_cycles:
                 self.now[FLAGS] |= {it}
                 self.makes_cycles = True
         elif isinstance(it, (Cycle, Transfer)) or isinstance(it, Plain) and it.word != "put":
@@ -155,9 +154,9 @@ class Flow:
         if self.at < len(self.rows) and self.rows[self.at].word == "else" and self.rows[self.at].depth == self.row[it].depth:
             self.other[it] = self.next_row()
         self.block(it.other)
-        for name, its in after.items():
-            if its is not self.now[name]:
-                self.now[name] |= its
+        for name, settings in after.items():
+            if settings is not self.now[name]:
+                self.now[name] |= settings
 
     def loop(self, it: Loop) -> None:
         if isinstance(it, For):

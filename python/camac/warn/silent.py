@@ -12,12 +12,12 @@ from camac.program import verdict
 from camac.subcommands import plan as ask_plan
 from camac.texts import GREATEST_TEXT, plan_text
 from camac.tree import (
-    Assign, Body, Cycle, Expression, For, If, Loop, Name, Number, Operation, Range, Script, SetRegister, Statement, Transfer, all_in, names_in,
-    written_by,
+    OPERATIONS, Assign, Body, Cycle, Expression, For, If, Loop, Name, Number, Operation, Range, Script, SetRegister, Statement, Transfer, all_in,
+    names_in, written_by,
 )
 from camac.values import Address, Body as Costs, range_of
 from camac.warn.codes import Code, Warned
-from camac.warn.flow import FLAGS, OPERATIONS, Flow, Some, is_put
+from camac.warn.flow import FLAGS, Flow, Some, is_put
 
 # A number with a 0 before it, for which the tokens are looked through.
 ZERO = re.compile(rb"\b0\d")
@@ -56,8 +56,8 @@ class Silent:
 
     def found(self) -> Iterator[Warned]:
         flows: Dict[str, Flow] = {}
-        for body, its in zip(self.script.bodies, self.costs):
-            flow = flows[body.name] = Flow(body, its.rows, flows)
+        for body, costs in zip(self.script.bodies, self.costs):
+            flow = flows[body.name] = Flow(body, costs.rows, flows)
             numbers = {it: self.number(it, flow) for it in filter(is_put, flow.value) if flow.row[it].times}
             yield from (Warned(it.line, Code.ONE_NUMBER, f"this word is always {number}") for it, number in numbers.items() if number is not None)
             yield from self.of_reads(flow)
@@ -95,8 +95,8 @@ class Silent:
         if b"clears" not in plan_text(self.plan):
             return False
         at = flow.row[it].addresses()[0]
-        its = ask_plan(self.plan, self.program).declaration(at.crate[0], at.station[0], at.sub_address[0], it.function)
-        return its is not None and its.clears
+        declared = ask_plan(self.plan, self.program).declaration(at.crate[0], at.station[0], at.sub_address[0], it.function)
+        return declared is not None and declared.clears
 
     def of_guards(self, flow: Flow) -> Iterator[Warned]:
         """Guards of sums that leave something out after many turns."""

@@ -1,9 +1,9 @@
 """A plan, as the tables of its TOML text spell it."""
 from __future__ import annotations
 
+import re
 from typing import Any, Dict, List, NamedTuple, Optional, Set, Tuple
 
-from oracle.reader.nesting import judge_nesting
 from oracle.reader.refusals import Refused
 from oracle.reader.toml_text import read_toml
 
@@ -18,6 +18,12 @@ CONTROLLER = {
     (30, 10, 24): "disable demand", (30, 10, 26): "enable demand", (30, 10, 27): "test demand", (30, 11, 27): "test GL",
 }
 CONTROLLER_STATIONS = (28, 30)
+DEEPEST = 16
+PIECES = re.compile(
+    rb'(?s)"""(?:\\.|(?!""")[^\\])*"*|\'\'\'(?:(?!\'\'\').)*\'*'  # strings of several lines
+    rb'|"(?:\\.|[^"\\\n])*"?|\'[^\'\n]*\'?|#[^\n]*'  # strings of one line, comments
+    rb"|([][{}.,=\n])"
+)
 
 
 def kind_of(function: int) -> str:
@@ -107,6 +113,33 @@ class Table:
         if any(type(it) is not dict for it in tables):
             raise Refused("P3")
         return tables
+
+
+def judge_nesting(text: bytes) -> None:
+    """P11 if more than 16 are in each other: brackets, dots of keys and the keys of the heading, strings and comments aside."""
+    heading, dots, part = 0, 0, "key"
+    # each bracket with the dots of the key that it is at
+    brackets: List[Tuple[str, int]] = []
+    for piece in PIECES.finditer(text):
+        sign = (piece[1] or b"").decode()
+        if sign == "[" and part != "value":
+            heading, dots, part, brackets = 1, 0, "heading", []
+        elif sign and sign in "[{":
+            brackets.append((sign, dots))
+            dots, part = 0, "value" if sign == "[" else "key"
+        elif sign == ".":
+            heading += part == "heading"
+            dots += part == "key"
+        elif sign == "=":
+            part = "value"
+        elif sign and sign in "]}" and part != "heading":
+            dots, part = brackets.pop()[1] if brackets else 0, "value"
+        elif sign == ",":
+            dots, part = 0, "value" if brackets and brackets[-1][0] == "[" else "key"
+        elif sign == "\n":
+            dots, part = 0, part if brackets else "key"
+        if heading + dots + sum(1 + it for _, it in brackets) > DEEPEST:
+            raise Refused("P11")
 
 
 def read_plan(text: bytes) -> Plan:

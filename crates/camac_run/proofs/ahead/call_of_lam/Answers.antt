@@ -8,6 +8,7 @@ use Rattle.camac_lang.specs.View.{lam_of}
 use Rattle.camac_machine.specs.MachineState.{context_in}
 use Rattle.camac_machine.proofs.Lams.{lam_at}
 use Rattle.camac_model.specs.Meaning.{lam_address}
+use Rattle.camac_run.specs.Sure.{context_before}
 use Rattle.camac_run.proofs.Steps.{lam_makes, map_some}
 use Rattle.camac_run.proofs.ahead.call_of_lam.Goals as goal
 
@@ -20,7 +21,7 @@ returns-then-action-lams c =
     let less : c.args.action.now.lam < length script.lams = omega (arith, n, c.if-action-lams.true) in
     let there : slice_get (context_in c.args.checked.now).lams c.args.action.now.lam ≡ Some (lam_address (lam_of l)) = lam_at c.lams-lams.result.now script.lams c.args.action.now.lam l e less c.index-lams-action.is in
     map_some c.command_at.result _ _
-    (λ k is known registers.
-    lam_makes (context_in c.args.checked.now) known registers k c.args.action.now.spot c.args.action.now.call c.args.action.now.lam (lam_address (lam_of l)) there
+    (λ k is known registers i.
+    lam_makes (context_before c.args.checked.now i) known registers k c.args.action.now.spot c.args.action.now.call c.args.action.now.lam (lam_address (lam_of l)) there
     (is ∙ ap (λ a. command_at (address l.crate_no l.station a) c.lam_function.result moved.None) c.get.ensures.value ∙ ap (λ f. command_at (lam_address (lam_of l)) f moved.None) c.lam_function.ensures))
     c.command_at.ensures

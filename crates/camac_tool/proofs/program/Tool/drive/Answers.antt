@@ -12,6 +12,6 @@ pub returns : goal.returns
 returns g c =
     let bytes_of = g.R.Host.bytes_of c.args.self.now.rt.now in
     rw (← c.new-out.ensures.inner, c.into_inner-2.ensures)
-    (run_settled bytes_of c.args.plan.now c.args.script.now (codes "@in") _ (kept_in _ (λ i. g.R.Input.Read.remaining i.device) c.new-3.result c.in-Ok.inputs.2 c.new-3.ensures.inner c.in-Ok.ensures.answers)
+    (run_settled bytes_of (g.R.Host.finds c.args.self.now.rt.now) c.args.plan.now c.args.script.now (codes "@in") c.args.events.now c.in-Ok.ensures.apart _ (kept_in _ (λ i. g.R.Input.Read.remaining i.device) c.new-3.result c.in-Ok.inputs.2 c.new-3.ensures.inner c.in-Ok.ensures.answers)
     (λ after j h. judged_read bytes_of c.args.plan.now c.args.script.now _ c.in-Ok.inputs.0 _ _ c.new-2.result c.in-Ok.inputs.1 _ c.in-Ok.ensures.plan c.source_of.ensures c.new-2.ensures.inner c.in-Ok.ensures.script j h)
     Requests refl _ c.engine_drive-outcome.result c.settled.result c.engine_drive-outcome.ensures c.settled.ensures)

@@ -1,3 +1,0 @@
-# Completion of camac-lsp for bash.
-
-complete -W '--help -h' camac-lsp

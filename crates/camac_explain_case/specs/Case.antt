@@ -1,0 +1,68 @@
+-- What is told of a refused statement beside its rule.
+use Rattle.std.specs.Prelude.{ℕ, Bool, ◌||◌, List, [], ◌∷◌, ◌++◌, codes, decimal, flat_map, nat_lt, Option, Some, None, Result, Ok, Err, unwrap_or, if◌then◌else◌}
+use Rattle.std.specs.List.{concat}
+use Rattle.camac_branch.specs.Plan.{Layout, crate_waits}
+use Rattle.camac_lang.specs.declared.spot.Spot.{Spot}
+use Rattle.camac_lines.specs.Words.{quoted}
+use Rattle.camac_rules.specs.Addresses.{has_command}
+use Rattle.camac_rules.specs.declared.case.Case.{Case}
+use Rattle.camac_rules.specs.declared.case.Case.TheVariants.{NoCommand}
+use Rattle.camac_rules.specs.declared.rule.CheckRule.{CheckRule}
+use Rattle.camac_rules.specs.declared.rule.CheckRule.TheVariants as check
+use Rattle.camac_tokens.specs.Fault.{Fault as TextFault}
+use Rattle.camac_tokens.specs.Scanning.{tokens_of}
+use Rattle.camac_tokens.specs.declared.token.Token.{Token}
+use Rattle.camac_explain_case.specs.Address.{last_set, register_at}
+use Rattle.camac_explain_case.specs.declared.case.TheConstants.{SUB_ADDRESSES, WAITS}
+
+-- where a register was set
+abbrev pub set_of : (register : List ℕ) → (line : Option ℕ) → List ℕ
+set_of register None = []
+set_of register (Some line) = concat (codes "Set: the `cdreg` of " ∷ quoted register ∷ codes " is on line " ∷ decimal line ∷ codes ".\n" ∷ [])
+
+abbrev pub set_if : List Token → Spot → (register : Option (List ℕ)) → List ℕ
+set_if ts s None = []
+set_if ts s (Some register) = set_of register (last_set s.left register None ts)
+
+abbrev pub set_among : List Token → Spot → List ℕ
+set_among ts s = set_if ts s (register_at s.left ts)
+
+abbrev pub set_in : Result (List Token) TextFault → Spot → List ℕ
+set_in (Ok ts) s = set_among ts s
+set_in (Err f) s = []
+
+-- where the address of a statement was set, if a register holds it
+abbrev pub set_line : (text : List ℕ) → Spot → List ℕ
+set_line text s = set_in (tokens_of text) s
+
+abbrev pub place_text : Layout → (function crate_no station sub_address : ℕ) → List ℕ
+place_text plan f c n a = if has_command plan f c n a then codes " A" ++ decimal a else []
+
+abbrev pub places_text : (function : ℕ) → (places : List ℕ) → List ℕ
+places_text f [] = []
+places_text f (b ∷ bs) = concat (codes "Plan: F" ∷ decimal f ∷ codes " is at" ∷ []) ++ (b ∷ bs) ++ codes ".\n"
+
+-- where a station has the function, which it has not somewhere; functions are numbered below 32
+abbrev pub places_line : Layout → Case → List ℕ
+places_line plan (NoCommand f c n a) =
+    if nat_lt f 32 then places_text f (flat_map (place_text plan f c n) SUB_ADDRESSES) else []
+places_line plan case = []
+
+abbrev pub waits_in : Layout → (crate_no : ℕ) → Bool
+waits_in plan c = nat_lt 0 (unwrap_or (crate_waits plan c) 0)
+
+-- auxiliary controllers may make cycles in some crate of the plan
+abbrev pub has_waits : Layout → Bool
+has_waits plan =
+    waits_in plan 1
+    || (waits_in plan 2 || (waits_in plan 3 || (waits_in plan 4 || (waits_in plan 5 || (waits_in plan 6 || waits_in plan 7)))))
+
+abbrev pub waits_line : Layout → List ℕ
+waits_line plan = if has_waits plan then WAITS.now else []
+
+-- of a statement or a heading that a rule refuses in this case
+unfoldable pub case_lines : Layout → (text : List ℕ) → CheckRule → Spot → Case → List ℕ
+case_lines plan text check.StationNotInstalled s case = set_line text s
+case_lines plan text check.CommandNotDeclared s case = set_line text s ++ places_line plan case
+case_lines plan text check.TooManyCycles s case = waits_line plan
+case_lines plan text rule s case = []

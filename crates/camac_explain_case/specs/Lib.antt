@@ -1,0 +1,3 @@
+pub mod Address
+pub mod Case
+pub mod Told
