@@ -412,7 +412,8 @@ class Install(Case):
         lines = call(COPY / "install", place)[1].splitlines()
         self.assertIn(f"install: the pages that explanations name (More: docs/..) are in {place}/share/doc/camac", lines)
         script = COPY / "examples/too_few_cycles.script"
-        *_, more = call(place / "bin/camac", "explain", "@sample", script)[1].splitlines()
+        told = call(place / "bin/camac", "explain", "@sample", script)[1].splitlines()
+        more = next(it for it in told if it.startswith("More: "))
         self.assertTrue((place / "share/doc/camac" / more.removeprefix("More: ").partition(",")[0]).is_file(), more)
         line = next(it for it in lines if it.startswith("install: python3 does not search ")).partition("~/.profile: ")[2]
         ran = call("bash", "-c", f"{line}; python3 -c 'import camac; print(camac.__file__)'", env={**os.environ, "PYTHONPATH": ""})
