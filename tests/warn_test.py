@@ -186,29 +186,42 @@ class Warnings(Case):
                 self.assertEqual(self.codes(text), [(1, "W5")])
 
     def test_held_up(self):
-        """Services of a bit and so many cycles, each on a line: warned of are the short ones, and of longer ones on lower bits the longest."""
+        """Services of a bit and so many cycles, each on a line. With the greatest bit for the longer one, `end` of `response` is less by what is
+        in progress."""
+        one = "(bit {}, cycles {})"
         for services, wanted in [
-            ([(1, 11), (2, 10)], [(2, "(bit 2, cycles 10) can be held up by `s1` (bit 1, cycles 11)")]),
-            ([(2, 10), (1, 11)], [(1, "(bit 2, cycles 10) can be held up by `s1` (bit 1, cycles 11)")]),
-            ([(1, 10), (2, 11)], []),
-            ([(1, 12), (2, 11)], []),
-            ([(1, 10), (2, 10)], []),
-            ([(7, 10), (9, 0)], []),
-            ([(7, 11), (9, 0)], [(2, "(bit 9, cycles 0) can be held up by `s7` (bit 7, cycles 11)")]),
-            ([(1, 12), (2, 14), (3, 3), (4, 14), (5, 11)], [(3, "(bit 3, cycles 3) can be held up by `s2` (bit 2, cycles 14)")]),
-            ([(4, 14), (2, 14), (5, 9)], [(3, "(bit 5, cycles 9) can be held up by `s2` (bit 2, cycles 14)")]),
+            ([(1, 3), (2, 25), (3, 10), (4, 2)], {(3, 10): ((2, 25), (4, 2))}),
+            ([(4, 2), (3, 10), (2, 25), (1, 3)], {(3, 10): ((2, 25), (4, 2))}),
+            # the longest has the greatest bit, or the lowest
+            ([(1, 10), (2, 3), (3, 2), (4, 25)], {}),
+            ([(1, 25), (2, 10), (3, 3), (4, 2)], {}),
+            # nothing is in progress that counts
+            ([(1, 3), (2, 25), (3, 10)], {}),
+            ([(1, 3), (2, 25), (3, 10), (4, 0)], {}),
+            # as long as itself is not longer; what is in progress may be as long as the longer one, and no longer
+            ([(1, 3), (2, 10), (3, 10), (4, 2)], {}),
+            ([(1, 3), (2, 11), (3, 10), (4, 11)], {(3, 10): ((2, 11), (4, 11))}),
+            ([(1, 3), (2, 11), (3, 10), (4, 12)], {}),
+            ([(1, 1), (2, 14), (3, 12), (5, 3), (7, 9), (9, 4)], {(3, 12): ((2, 14), (7, 9)), (5, 3): ((2, 14), (7, 9)), (7, 9): ((2, 14), (9, 4))}),
         ]:
             with self.subTest(services=services):
-                found = [it for it in self.warned(services) if it.code is Code.HELD_UP]
-                self.assertEqual([(it.line, it.text) for it in found], [(line, f"this service {text}, whose bit is lower") for line, text in wanted])
+                plan, script = self.bits(services)
+                found = {services[it.line - 1]: it.text for it in camac.warnings(plan, script) if it.code is Code.HELD_UP}
+                self.assertEqual(found.keys(), wanted.keys())
+                ends = {it.gl: it.end for it in camac.response(plan, script)}
+                for it, (longer, later) in wanted.items():
+                    both = f"`s{longer[0]}` {one.format(*longer)} and by `s{later[0]}` {one.format(*later)}"
+                    self.assertEqual(found[it], f"this service {one.format(*it)} can be held up by {both}; with the greatest bit for `s{longer[0]}`, by one of them")
+                    last = {at.gl: at.end for at in camac.response(*self.bits([(23 if at == longer else at[0], at[1]) for at in services]))}
+                    self.assertEqual(ends[it[0]] - last[it[0]], later[1])
 
-    def warned(self, services):
-        """The warnings of a script with these services, in a crate without waits."""
+    def bits(self, services):
+        """A plan and a script with these services, in a crate without waits."""
         stations = ", ".join(f'{{ n = {bit}, type = "T", gl = {bit} }}' for bit, _ in services)
         plan = f'[[type]]\nname = "T"\ncommands = [ {{ f = 10, a = 0 }} ]\n[[crate]]\nnumber = 1\nstation = [ {stations} ]\n'
         lams = " ".join(f"cdlam s{bit} 1 1 {bit} 0" for bit, _ in services)
         lines = [f"service s{bit} within 99 cycles event 0 words {{ {f'cclc s{bit} ' * cycles}}}\n" for bit, cycles in services]
-        return camac.warnings(self.write("plan", plan), self.write("a.script", f"{lams} {''.join(lines)}"))
+        return self.write("plan", plan), self.write("a.script", f"{lams} {''.join(lines)}")
 
     def test_silent(self):
         """Bodies that get a code at a line, from 1, and such that do not."""

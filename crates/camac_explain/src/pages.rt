@@ -200,8 +200,8 @@ pub static OF_WARNINGS: [Row; 17] = [
     ),
     (
         "W6",
-        "a service of more than 10 cycles on a lower bit goes before this one each time that both modules call.",
-        "give the module that has to be answered soon the lower bit, in the wiring and in the plan; docs/RESPONSE.md has more.",
+        "a longer service on a lower bit can hold this one up, and one in progress on a greater bit, too; with the greatest bit for the longer one, one of them alone can.",
+        "give the longer one the greatest bit, in the wiring and in the plan, unless it is the more urgent one; docs/RESPONSE.md has more.",
     ),
     (
         "W7",

@@ -18,8 +18,6 @@ UNKEPT = {
     Harm.CLEARED: "`{1}` may clear the look-at-me of `{0}`: leave that to `{0}`",
     Harm.HIDDEN: "`{1}` may hide the look-at-me of `{0}`: leave it enabled, and the demand output on",
 }
-# A service of so many cycles or fewer is a short one.
-SHORT = 10
 
 
 def warnings(plan: File, script: File, program: Optional[File] = None) -> List[Warned]:
@@ -70,14 +68,18 @@ def _unkept(script: Script, responses: Sequence[Response]) -> Iterator[Warned]:
 
 
 def _held_up(script: Script, services: List[Service]) -> Iterator[Warned]:
-    """Short services that a longer one on a lower bit can hold up; the longest of those is named."""
+    """Services that a longer one on a lower bit can hold up, and one in progress on a greater bit, too: with the greatest bit for the longer one,
+    one of them alone. The service of the lowest bit is taken for the urgent one."""
     lines = {it.name: it.line for it in script.bodies}
-    for it in services:
-        lower = [other for other in services if other.gl < it.gl and other.cycles > SHORT]
-        if it.cycles <= SHORT and lower:
-            longest = max(lower, key=lambda other: (other.cycles, -other.gl))
-            text = f"this service (bit {it.gl}, cycles {it.cycles}) can be held up by `{longest.name}` (bit {longest.gl}, cycles {longest.cycles})"
-            yield Warned(lines[it.name], Code.HELD_UP, f"{text}, whose bit is lower")
+    first, *others = sorted(services, key=lambda it: it.gl)
+    for place, it in enumerate(others):
+        before, after = others[:place], others[place + 1 :]
+        if before and after:
+            longer, later = (max(some, key=lambda one: one.cycles) for some in (before, after))
+            if 0 < later.cycles <= longer.cycles > it.cycles:
+                both = " and by ".join(f"`{one.name}` (bit {one.gl}, cycles {one.cycles})" for one in (longer, later))
+                text = f"this service (bit {it.gl}, cycles {it.cycles}) can be held up by {both}; with the greatest bit for `{longer.name}`, by one of them"
+                yield Warned(lines[it.name], Code.HELD_UP, text)
 
 
 def _loose(plan: File, text: bytes, script: Script, program: Optional[File]) -> Iterator[Warned]:
