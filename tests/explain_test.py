@@ -479,11 +479,11 @@ class Explain(Room):
             with self.subTest(what=what):
                 (self.room / "plan.toml").write_text(plan)
                 status, text = self.call("explain", "plan.toml")
-                first, sentence, *rest = text.splitlines()
+                first, *rest = text.splitlines()
                 self.assertEqual((status, first), self.listed("plan.toml"))
                 self.assertRegex(first, f"^refused {rule}: ")
-                self.assertEqual(sentence[: len(said)], said)
-                self.assert_told(rule, *rest)
+                self.assertEqual("\n".join(rest)[: len(said)], said)
+                self.assert_told(rule, *rest[1 + said.count("\n") :], has_hint="\n" in said)
 
     def listed(self, plan):
         """Status of `plan` and the line that it prints."""

@@ -114,7 +114,7 @@ TOML = [
     ("[[type]]", "[type]", "`[[type]]`"),
     ("[[crate]]", "[crate]", "`[[crate]]`"),
     ("number = 1\n[[crate.station]]", "[[crate.station]]\nnumber = 1", "It stands above the crate's first `[[crate.station]]`."),
-    ('"ADC"\ncommands', "“ADC”\ncommands", "Line 2, column 8: invalid value, expected a string, number, boolean, date-time, array or inline table. Curly quotes are none: write `\"`."),
+    ('"ADC"\ncommands', "“ADC”\ncommands", "Line 2, column 8: invalid value, expected a string, number, boolean, date-time, array or inline table.\nFix: Curly quotes are none: write `\"`."),
     ("[[crate]]", "[[crate]", "Line 4, column 9: unclosed array table, expected `]]`."),
     ("a = 0, to = 11", "a = 0..11", "A range is written as `a = 0, to = 11`."),
     ("a = 0, to = 11", "a = [0, 11]", "A range is written as `a = 0, to = 11`."),

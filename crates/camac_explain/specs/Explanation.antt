@@ -1,10 +1,11 @@
--- The lines that follow a refusal: the source line, at most one sentence, and the hint of a text's fault, or what is told of the rule.
+-- The lines that follow a refusal: the source line, at most one sentence, and the hint of a fault, or what is told of the rule.
 use Rattle.std.specs.Prelude.{◌≡◌, ℕ, List, [], ◌++◌, Option, Some, None, codes, map}
 use Rattle.camac_lines.specs.Codes.{plan_code}
 use Rattle.camac_lines.specs.Refusal.{code_of}
 use Rattle.camac_plan.specs.declared.fault.PlanCase.{PlanCase}
 use Rattle.camac_plan.specs.declared.fault.PlanRule.{PlanRule}
 use Rattle.camac_explain_plan.specs.Sentence.{IsPlanSentence}
+use Rattle.camac_explain_plan.specs.Told.{plan_hint}
 use Rattle.camac_explain.specs.Advice.{Told, plan_told, text_told, link_told, check_told}
 use Rattle.camac_explain.specs.Finding.{refusal_of}
 use Rattle.camac_explain.specs.Source.{shown_byte, source_of}
@@ -29,20 +30,23 @@ abbrev pub sentence_line : Option (List ℕ) → List ℕ
 sentence_line None = []
 sentence_line (Some sentence) = map shown_byte sentence ++ codes "\n"
 
-abbrev pub explanation : (source : List ℕ) → (sentence : Option (List ℕ)) → Told → (code : List ℕ) → List ℕ
-explanation source sentence told code = source ++ sentence_line sentence ++ advice_text told code
+-- a fault's own hint is the fix, in place of what is told of the rule
+abbrev pub closing : (hint : Option (List ℕ)) → Told → (code : List ℕ) → List ℕ
+closing None told code = advice_text told code
+closing (Some hint) told code = codes "Fix: " ++ sentence_line (Some hint) ++ line_of (codes "More: docs/REFUSALS.md, ") code
+
+abbrev pub explanation : (source : List ℕ) → (sentence hint : Option (List ℕ)) → Told → (code : List ℕ) → List ℕ
+explanation source sentence hint told code = source ++ sentence_line sentence ++ closing hint told code
+
+-- of a refused text, whose fault may have a hint
+abbrev pub text_explanation : (text : List ℕ) → Finding → (sentence hint : Option (List ℕ)) → List ℕ
+text_explanation text f sentence hint = explanation (source_of text f) sentence hint (told_of f) (code_of (refusal_of f)).0
 
 -- of a script's refusal
 abbrev pub explanation_of : (text : List ℕ) → Finding → (sentence : Option (List ℕ)) → List ℕ
-explanation_of text f sentence = explanation (source_of text f) sentence (told_of f) (code_of (refusal_of f)).0
-
--- of a refused text, whose fault may have a hint of its own: that is the fix, in place of what is told of the rule
-abbrev pub text_explanation : (text : List ℕ) → Finding → (sentence hint : Option (List ℕ)) → List ℕ
-text_explanation text f sentence None = explanation_of text f sentence
-text_explanation text f sentence (Some hint) =
-    source_of text f ++ sentence_line sentence ++ (codes "Fix: " ++ sentence_line (Some hint)) ++ line_of (codes "More: docs/REFUSALS.md, ") (code_of (refusal_of f)).0
+explanation_of text f sentence = text_explanation text f sentence None
 
 -- of a refused plan, by its rule in this case
 abbrev pub IsPlanExplanation : (text : List ℕ) → PlanRule → PlanCase → List ℕ → Type 0
 IsPlanExplanation text rule case bytes =
-    (sentence : Option (List ℕ)) × IsPlanSentence text case sentence × (bytes ≡ explanation [] sentence (plan_told rule) (plan_code rule).0)
+    (sentence : Option (List ℕ)) × IsPlanSentence text case sentence × (bytes ≡ explanation [] sentence (plan_hint text case) (plan_told rule) (plan_code rule).0)

@@ -1,14 +1,14 @@
 // The lines of an explanation.
 
-ghost use Rattle.std.specs.Prelude.{◌≡◌, ◌++◌, Some, IfOk, OnOk, codes, option_map, string_bytes};
+ghost use Rattle.std.specs.Prelude.{◌≡◌, ◌++◌, [], Some, IfOk, OnOk, option_map, string_bytes};
 ghost use Rattle.camac_explain.specs.Advice.{told};
-ghost use Rattle.camac_explain.specs.Explanation.{IsPlanExplanation, advice_text, explanation_of, line_of, sentence_line, text_explanation, told_of};
+ghost use Rattle.camac_explain.specs.Explanation.{IsPlanExplanation, advice_text, closing, explanation_of, line_of, sentence_line, text_explanation, told_of};
 ghost use Rattle.camac_explain.specs.Source.{source_of};
 
 use crate::advice::{Advice, check_advice, link_advice, plan_advice, text_advice};
 use crate::finding::Finding;
 use crate::source::{push_shown, push_source};
-use camac_explain_plan::plan_sentence;
+use camac_explain_plan::{plan_hint, plan_sentence};
 use camac_lines::Refusal;
 use camac_plan::{PlanCase, PlanRule};
 use std::alloc::{AllocError, Global};
@@ -26,7 +26,12 @@ pub fn explain_plan(
     let sentence = plan_sentence(alloc, text, case)?;
     let code = Refusal::Plan(rule).code();
     push_sentence(&mut lines, sentence)?;
-    push_advice(&mut lines, code.name, plan_advice(rule))?;
+    push_closing(
+        &mut lines,
+        plan_hint(text, case),
+        plan_advice(rule),
+        code.name,
+    )?;
     Ok(lines)
 }
 
@@ -40,12 +45,7 @@ pub fn explain_script(
 ) -> Result<Vec<u8>, AllocError>
     ensures { IfOk result (λ v. v.items ≡ explanation_of text.now finding (option_map string_bytes sentence)) }
 {
-    let mut lines = Vec::new(alloc);
-    push_source(&mut lines, text, finding)?;
-    let code = finding.refusal().code();
-    push_sentence(&mut lines, sentence)?;
-    push_advice(&mut lines, code.name, advice_of(finding))?;
-    Ok(lines)
+    explain_fault(alloc, text, finding, sentence, None)
 }
 
 /// The same of a text's fault, which may have a hint of its own: that is the fix, in place of what is told of the rule.
@@ -58,28 +58,21 @@ pub fn explain_fault(
 ) -> Result<Vec<u8>, AllocError>
     ensures { IfOk result (λ v. v.items ≡ text_explanation text.now finding (option_map string_bytes sentence) (option_map string_bytes hint)) }
 {
-    match hint {
-        None => explain_script(alloc, text, finding, sentence),
-        Some(hint) => explain_by_hint(alloc, text, finding, sentence, hint),
-    }
-}
-
-fn explain_by_hint(
-    alloc: Global,
-    text: &[u8],
-    finding: Finding,
-    sentence: Option<String>,
-    hint: String,
-) -> Result<Vec<u8>, AllocError>
-    ensures { IfOk result (λ v. v.items ≡ text_explanation text.now finding (option_map string_bytes sentence) (Some (string_bytes hint))) }
-{
     let mut lines = Vec::new(alloc);
     push_source(&mut lines, text, finding)?;
-    push_sentence(&mut lines, sentence)?;
     let code = finding.refusal().code();
-    push_hint(&mut lines, hint.as_bytes())?;
-    push_line(&mut lines, "More: docs/REFUSALS.md, ", code.name)?;
+    push_sentence(&mut lines, sentence)?;
+    push_closing(&mut lines, shown(&hint), advice_of(finding), code.name)?;
     Ok(lines)
+}
+
+fn shown(text: &Option<String>) -> Option<&str>
+    ensures { option_map (λ t. t.now) result ≡ option_map string_bytes text.now }
+{
+    match text {
+        Some(text) => Some(text.as_str()),
+        None => None,
+    }
 }
 
 fn advice_of(finding: Finding) -> Advice
@@ -112,15 +105,30 @@ fn push_told(lines: &mut Vec<u8>, sentence: &[u8]) -> Result<(), AllocError>
     Ok(())
 }
 
-fn push_hint(lines: &mut Vec<u8>, hint: &[u8]) -> Result<(), AllocError>
-    ensures { OnOk result (lines.new.items ≡ lines.old.items ++ (codes "Fix: " ++ sentence_line (Some hint.now))) }
+// Puts the hint at the end, if there is one, or what is told of the rule of this code.
+fn push_closing(
+    lines: &mut Vec<u8>,
+    hint: Option<&str>,
+    advice: Advice,
+    code: &str,
+) -> Result<(), AllocError>
+    ensures { OnOk result (lines.new.items ≡ lines.old.items ++ closing (option_map (λ h. h.now) hint.entry) (told advice.why.now advice.fix.now) code.now) }
 {
-    lines.extend_from_slice(b"Fix: ")?;
-    push_told(lines, hint)
+    match hint {
+        Some(hint) => push_hint(lines, hint.as_bytes(), code),
+        None => push_advice(lines, advice, code),
+    }
 }
 
-// Puts what is told of the rule of this code at the end.
-fn push_advice(lines: &mut Vec<u8>, code: &str, advice: Advice) -> Result<(), AllocError>
+fn push_hint(lines: &mut Vec<u8>, hint: &[u8], code: &str) -> Result<(), AllocError>
+    ensures { OnOk result (lines.new.items ≡ lines.old.items ++ closing (Some hint.now) (told [] []) code.now) }
+{
+    lines.extend_from_slice(b"Fix: ")?;
+    push_told(lines, hint)?;
+    push_line(lines, "More: docs/REFUSALS.md, ", code)
+}
+
+fn push_advice(lines: &mut Vec<u8>, advice: Advice, code: &str) -> Result<(), AllocError>
     ensures { OnOk result (lines.new.items ≡ lines.old.items ++ advice_text (told advice.why.now advice.fix.now) code.now) }
 {
     push_line(lines, "Why: ", advice.why)?;

@@ -56,10 +56,10 @@ abbrev pub is_table_heading : (text : List ℕ) → (at : ℕ) → Bool
 is_table_heading text at = nat_lt at (length text) && is_single_bracket (drop (last_begin (take at text)) text)
 
 abbrev pub double_brackets : List ℕ
-double_brackets = codes " Write crates, stations and types in double brackets: `[[crate]]`, `[[crate.station]]`, `[[type]]`."
+double_brackets = codes "Write crates, stations and types in double brackets: `[[crate]]`, `[[crate.station]]`, `[[type]]`."
 
 abbrev pub range_hint : List ℕ
-range_hint = codes " A range is written as `a = 0, to = 11`."
+range_hint = codes "A range is written as `a = 0, to = 11`."
 
 -- a curly quote in UTF-8
 abbrev pub begins_quote : List ℕ → Bool
@@ -72,16 +72,15 @@ begins_range (a ∷ b ∷ c ∷ d ∷ rest) = (c == 46) && ((b == 46) || (d == 4
 begins_range _ = false
 
 -- by what stands where a text stops
-abbrev pub hint_at : (rest : List ℕ) → List ℕ
+abbrev pub hint_at : (rest : List ℕ) → Option (List ℕ)
 hint_at rest =
-    if starts_with nat_eq rest (codes ":") then codes " Write `=` between a key and its value."
-    else if begins_quote rest then codes " Curly quotes are none: write `\"`."
-    else if begins_range rest then range_hint
-    else []
+    if starts_with nat_eq rest (codes ":") then Some (codes "Write `=` between a key and its value.")
+    else if begins_quote rest then Some (codes "Curly quotes are none: write `\"`.")
+    else if begins_range rest then Some range_hint
+    else None
 
--- behind a sentence
-abbrev pub hint_of_text : (text : List ℕ) → (at : ℕ) → List ℕ
+abbrev pub hint_of_text : (text : List ℕ) → (at : ℕ) → Option (List ℕ)
 hint_of_text text at =
-    if begins_like_a_script text then codes " This begins like a script: PLAN comes first, then SCRIPT."
-    else if is_table_heading text at then double_brackets
+    if begins_like_a_script text then Some (codes "This begins like a script: PLAN comes first, then SCRIPT.")
+    else if is_table_heading text at then Some double_brackets
     else hint_at (drop at text)

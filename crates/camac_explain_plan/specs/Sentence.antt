@@ -9,7 +9,7 @@ use Rattle.camac_plan.specs.declared.fault.PlanTable.{PlanTable}
 use Rattle.camac_plan.specs.declared.key.PlanKey.{PlanKey}
 use Rattle.camac_plan.specs.declared.key.PlanKey.TheVariants as key
 use Rattle.camac_explain_plan.specs.Path.{way_to}
-use Rattle.camac_explain_plan.specs.Place.{hint_of_text, place_text}
+use Rattle.camac_explain_plan.specs.Place.{place_text}
 use Rattle.camac_explain_plan.specs.Table.{value_in}
 use Rattle.camac_explain_plan.specs.Told.{case_text}
 use Rattle.camac_explain_plan.specs.Unknown.{unknown_sentence}
@@ -66,7 +66,7 @@ in_table top c = unknown_or top c (unknown_in c)
 
 -- of a text that says none: how the TOML library calls the fault
 abbrev pub no_table : (message text : List ℕ) → PlanCase → Option (List ℕ)
-no_table message text (case.Text at) = Some (place_text (take at text) message ++ hint_of_text text at)
+no_table message text (case.Text at) = Some (place_text (take at text) message)
 no_table message text _ = None
 
 abbrev pub by_table : (message text : List ℕ) → PlanCase → Option Members → Option (List ℕ)

@@ -13,7 +13,7 @@ use Rattle.camac_plan.specs.declared.fault.ValueKind.TheVariants.{Number, Flag, 
 use Rattle.camac_plan.specs.declared.key.PlanKey.{PlanKey}
 use Rattle.camac_plan.specs.declared.key.PlanKey.TheVariants as key
 use Rattle.camac_explain_plan.specs.Path.{nth, way_to_first}
-use Rattle.camac_explain_plan.specs.Place.{double_brackets, range_hint}
+use Rattle.camac_explain_plan.specs.Place.{double_brackets, hint_of_text, range_hint}
 
 abbrev pub needed : ValueKind → List ℕ
 needed (Number low high) = codes "a whole number from " ++ decimal low ++ codes " to " ++ decimal high
@@ -30,24 +30,31 @@ abbrev pub kind_name : Option Data → List ℕ
 kind_name (Some d) = type_name d
 kind_name None = codes "?"
 
-abbrev pub kind_text : (value : Option Data) → (wanted : ValueKind) → (hint : List ℕ) → List ℕ
-kind_text value wanted hint = codes "the value is of the kind " ++ (kind_name value ++ (codes "; expected " ++ (needed wanted ++ (codes "." ++ hint))))
+abbrev pub kind_text : (value : Option Data) → (wanted : ValueKind) → List ℕ
+kind_text value wanted = codes "the value is of the kind " ++ (kind_name value ++ (codes "; expected " ++ (needed wanted ++ codes ".")))
 
 -- how to write what belongs at a key
-abbrev pub key_hint : PlanKey → List ℕ
-key_hint key.A = range_hint
-key_hint key.Crates = double_brackets
-key_hint key.Stations = double_brackets
-key_hint key.Types = double_brackets
-key_hint _ = []
+abbrev pub key_hint : PlanKey → Option (List ℕ)
+key_hint key.A = Some range_hint
+key_hint key.Crates = Some double_brackets
+key_hint key.Stations = Some double_brackets
+key_hint key.Types = Some double_brackets
+key_hint _ = None
 
 -- where to write a key that is missing
-abbrev pub missing_hint : PlanKey → List ℕ
-missing_hint key.Number = codes " It stands above the crate's first `[[crate.station]]`."
-missing_hint _ = []
+abbrev pub missing_hint : PlanKey → Option (List ℕ)
+missing_hint key.Number = Some (codes "It stands above the crate's first `[[crate.station]]`.")
+missing_hint _ = None
 
-abbrev pub missing_told : PlanKey → (wanted : ValueKind) → List ℕ
-missing_told key wanted = codes "the key is missing; expected " ++ (needed wanted ++ (codes "." ++ missing_hint key))
+-- how to write it right, if the case knows
+abbrev pub plan_hint : (text : List ℕ) → PlanCase → Option (List ℕ)
+plan_hint text (case.Text at) = hint_of_text text at
+plan_hint text (case.Kind there key wanted) = key_hint key
+plan_hint text (case.Missing there key wanted) = missing_hint key
+plan_hint text _ = None
+
+abbrev pub missing_told : (wanted : ValueKind) → List ℕ
+missing_told wanted = codes "the key is missing; expected " ++ (needed wanted ++ codes ".")
 
 -- the place and the kind of the first entry that is no table, where the first of all has the place n
 abbrev pub first_other : (n : ℕ) → Items → Option (ℕ × List ℕ)
@@ -65,8 +72,8 @@ entry_or (Some (place, kind)) otherwise =
     concat (codes "the " ∷ nth place (codes "entry") ∷ codes " is of the kind " ∷ kind ∷ codes "; expected a table, such as `{ f = 0, a = 0 }`." ∷ [])
 
 -- a value of another kind, or an array with an entry of another kind
-abbrev pub kind_told : (value : Option Data) → PlanKey → (wanted : ValueKind) → List ℕ
-kind_told value key wanted = entry_or (other_in wanted value) (kind_text value wanted (key_hint key))
+abbrev pub kind_told : (value : Option Data) → (wanted : ValueKind) → List ℕ
+kind_told value wanted = entry_or (other_in wanted value) (kind_text value wanted)
 
 abbrev pub command_place : PlanTable → ℕ
 command_place (Command home place) = place
@@ -79,8 +86,8 @@ twice_told top value key first =
 
 -- what a rule knew of the value at its key, if there is one
 abbrev pub case_text : (top : Members) → (value : Option Data) → PlanCase → List ℕ
-case_text top value (case.Missing there key wanted) = missing_told key wanted
-case_text top value (case.Kind there key wanted) = kind_told value key wanted
+case_text top value (case.Missing there key wanted) = missing_told wanted
+case_text top value (case.Kind there key wanted) = kind_told value wanted
 case_text top value (case.Range there key found low high) =
     concat (codes "the value is " ∷ signed_decimal found ∷ codes "; expected " ∷ decimal low ∷ codes " to " ∷ decimal high ∷ codes "." ∷ [])
 case_text top value (case.Name there key) =

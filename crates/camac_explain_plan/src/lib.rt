@@ -9,3 +9,4 @@ mod told;
 mod unknown;
 
 pub use sentence::plan_sentence;
+pub use told::plan_hint;

@@ -1,6 +1,6 @@
 // A place in the text of a plan, and what is to be known of a text that is no TOML.
 
-ghost use Rattle.std.specs.Prelude.{◌≡◌, ◌≤◌, IfOk, count_by, false, drop, length, string_bytes, take, take_while};
+ghost use Rattle.std.specs.Prelude.{◌≡◌, ◌≤◌, IfOk, count_by, false, drop, length, option_map, string_bytes, take, take_while};
 ghost use Rattle.std.specs.Char.{is_ascii_alphanumeric};
 ghost use Rattle.camac_explain_plan.specs.Place.{begins_character, begins_like_a_script, begins_quote, begins_range, column_behind, from_word, hint_at, hint_of_text, is_declaration, is_single_bracket, is_table_heading, last_begin, line_behind, place_text};
 
@@ -99,35 +99,35 @@ fn last_begin(text: &[u8]) -> usize
 }
 
 pub(crate) const DOUBLE_BRACKETS: &str =
-    " Write crates, stations and types in double brackets: `[[crate]]`, `[[crate.station]]`, `[[type]]`.";
+    "Write crates, stations and types in double brackets: `[[crate]]`, `[[crate.station]]`, `[[type]]`.";
 
-pub(crate) const RANGE: &str = " A range is written as `a = 0, to = 11`.";
+pub(crate) const RANGE: &str = "A range is written as `a = 0, to = 11`.";
 
 // What is to be known of a text that is no TOML behind so many of its bytes.
-pub(crate) fn hint_of_text(text: &[u8], at: usize) -> &'static str
-    ensures { result.now ≡ hint_of_text text.now at }
+pub(crate) fn hint_of_text(text: &[u8], at: usize) -> Option<&'static str>
+    ensures { option_map (λ h. h.now) result ≡ hint_of_text text.now at }
 {
     if begins_like_a_script(text) {
-        " This begins like a script: PLAN comes first, then SCRIPT."
+        Some("This begins like a script: PLAN comes first, then SCRIPT.")
     } else if is_table_heading(text, at) {
-        DOUBLE_BRACKETS
+        Some(DOUBLE_BRACKETS)
     } else {
         hint_at(behind(text, at))
     }
 }
 
 // What is to be known of what stands where a text stops.
-fn hint_at(rest: &[u8]) -> &'static str
-    ensures { result.now ≡ hint_at rest.now }
+fn hint_at(rest: &[u8]) -> Option<&'static str>
+    ensures { option_map (λ h. h.now) result ≡ hint_at rest.now }
 {
     if rest.starts_with(b":") {
-        " Write `=` between a key and its value."
+        Some("Write `=` between a key and its value.")
     } else if begins_quote(rest) {
-        " Curly quotes are none: write `\"`."
+        Some("Curly quotes are none: write `\"`.")
     } else if begins_range(rest) {
-        RANGE
+        Some(RANGE)
     } else {
-        ""
+        None
     }
 }
 

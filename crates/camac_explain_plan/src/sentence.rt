@@ -5,7 +5,7 @@ ghost use Rattle.toml.specs.View.{table_view, view};
 ghost use Rattle.camac_explain_plan.specs.Sentence.{IsPlanSentence, IsReadSentence, at_table, in_table, key_in, nested_at, nested_text, no_table, table_in, unknown_in, value_at_key};
 
 use crate::path::way_to;
-use crate::place::{before, hint_of_text, place_sentence};
+use crate::place::{before, place_sentence};
 use crate::table::value_in;
 use crate::told::case_text;
 use crate::unknown::unknown_sentence;
@@ -69,11 +69,7 @@ fn sentence_of_text(
     ensures { IfOk result (λ s. option_map string_bytes s ≡ no_table message.now text.now case) }
 {
     match case {
-        PlanCase::Text { at } => {
-            let sentence = place_sentence(alloc, before(text, at), message)?;
-            let hint = hint_of_text(text, at);
-            format!(in alloc; "{sentence}{hint}").map(Some)
-        }
+        PlanCase::Text { at } => place_sentence(alloc, before(text, at), message).map(Some),
         _ => Ok(None),
     }
 }

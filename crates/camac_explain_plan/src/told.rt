@@ -2,10 +2,10 @@
 
 ghost use Rattle.std.specs.Prelude.{◌≡◌, IfOk, Some, option_map, string_bytes};
 ghost use Rattle.toml.specs.View.{array_view, table_view, view};
-ghost use Rattle.camac_explain_plan.specs.Told.{command_place, entry_or, first_other, key_hint, kind_name, kind_text, kind_told, missing_hint, missing_told, needed, other_in, shown, case_text, twice_told};
+ghost use Rattle.camac_explain_plan.specs.Told.{command_place, entry_or, first_other, key_hint, kind_name, kind_text, kind_told, missing_hint, missing_told, needed, other_in, plan_hint, shown, case_text, twice_told};
 
 use crate::path::{Nth, Path, is_known_by};
-use crate::place::{DOUBLE_BRACKETS, RANGE};
+use crate::place::{DOUBLE_BRACKETS, RANGE, hint_of_text};
 use camac_lines::Quote;
 use camac_plan::{PlanCase, PlanKey, PlanTable, ValueKind};
 use std::alloc::{AllocError, Global};
@@ -46,6 +46,18 @@ impl fmt::Display for Shown<'_> {
     }
 }
 
+/// How to write it right, if the case knows: the fix of this refusal, in place of what is told of its rule.
+pub fn plan_hint(text: &[u8], case: PlanCase) -> Option<&'static str>
+    ensures { option_map (λ h. h.now) result ≡ plan_hint text.now case }
+{
+    match case {
+        PlanCase::Text { at } => hint_of_text(text, at),
+        PlanCase::Kind { key, .. } => key_hint(key),
+        PlanCase::Missing { key, .. } => missing_hint(key),
+        _ => None,
+    }
+}
+
 // What a rule knew of the value at its key, if there is one.
 pub(crate) fn case_text(
     alloc: Global,
@@ -57,8 +69,8 @@ pub(crate) fn case_text(
 {
     let shown = Shown(value);
     match case {
-        PlanCase::Missing { key, kind, .. } => missing_told(alloc, key, kind),
-        PlanCase::Kind { key, kind, .. } => kind_told(alloc, value, key, kind),
+        PlanCase::Missing { kind, .. } => missing_told(alloc, kind),
+        PlanCase::Kind { kind, .. } => kind_told(alloc, value, kind),
         PlanCase::Range {
             found,
             low,
@@ -87,11 +99,11 @@ pub(crate) fn case_text(
     }
 }
 
-fn missing_told(alloc: Global, key: PlanKey, wanted: ValueKind) -> Result<String, AllocError>
-    ensures { IfOk result (λ s. string_bytes s ≡ missing_told key wanted) }
+fn missing_told(alloc: Global, wanted: ValueKind) -> Result<String, AllocError>
+    ensures { IfOk result (λ s. string_bytes s ≡ missing_told wanted) }
 {
-    let (needed, hint) = (Needed(wanted), missing_hint(key));
-    format!(in alloc; "the key is missing; expected {needed}.{hint}")
+    let needed = Needed(wanted);
+    format!(in alloc; "the key is missing; expected {needed}.")
 }
 
 // A value that the first table of it has. What this is known by is no way to it, but its home has a name.
@@ -123,13 +135,8 @@ fn command_place(table: PlanTable) -> usize
 }
 
 // Of a value of another kind, or of an array with an entry of another kind.
-fn kind_told(
-    alloc: Global,
-    value: Option<&Value>,
-    key: PlanKey,
-    wanted: ValueKind,
-) -> Result<String, AllocError>
-    ensures { IfOk result (λ s. string_bytes s ≡ kind_told (option_map (λ v. view v.now) value.entry) key wanted) }
+fn kind_told(alloc: Global, value: Option<&Value>, wanted: ValueKind) -> Result<String, AllocError>
+    ensures { IfOk result (λ s. string_bytes s ≡ kind_told (option_map (λ v. view v.now) value.entry) wanted) }
 {
     match other_in(wanted, value) {
         Some((place, kind)) => {
@@ -139,8 +146,8 @@ fn kind_told(
             )
         }
         None => {
-            let (kind, needed, hint) = (kind_name(value), Needed(wanted), key_hint(key));
-            format!(in alloc; "the value is of the kind {kind}; expected {needed}.{hint}")
+            let (kind, needed) = (kind_name(value), Needed(wanted));
+            format!(in alloc; "the value is of the kind {kind}; expected {needed}.")
         }
     }
 }
@@ -155,23 +162,23 @@ fn kind_name(value: Option<&Value>) -> &'static str
 }
 
 // How to write what belongs at a key.
-fn key_hint(key: PlanKey) -> &'static str
-    ensures { result.now ≡ key_hint key }
+fn key_hint(key: PlanKey) -> Option<&'static str>
+    ensures { option_map (λ h. h.now) result ≡ key_hint key }
 {
     match key {
-        PlanKey::A => RANGE,
-        PlanKey::Crates | PlanKey::Stations | PlanKey::Types => DOUBLE_BRACKETS,
-        _ => "",
+        PlanKey::A => Some(RANGE),
+        PlanKey::Crates | PlanKey::Stations | PlanKey::Types => Some(DOUBLE_BRACKETS),
+        _ => None,
     }
 }
 
 // Where to write a key that is missing.
-fn missing_hint(key: PlanKey) -> &'static str
-    ensures { result.now ≡ missing_hint key }
+fn missing_hint(key: PlanKey) -> Option<&'static str>
+    ensures { option_map (λ h. h.now) result ≡ missing_hint key }
 {
     match key {
-        PlanKey::Number => " It stands above the crate's first `[[crate.station]]`.",
-        _ => "",
+        PlanKey::Number => Some("It stands above the crate's first `[[crate.station]]`."),
+        _ => None,
     }
 }
 
