@@ -1,15 +1,17 @@
--- What one call reads of a text.
+-- What is read of a text, a call at a time, and how many answers it has.
 use Rattle.std.proofs.Common.{◌≡◌, ℕ, ◌+◌, ◌≤◌, ◌<◌, Bool, true, false, ◌==◌, cond, nat_le, nat_lt, List, [], ◌∷◌, ◌++◌, length, drop, Option, Some, None, Result, Ok, Err, refl, sym, ap, subst, ◌∙◌, append-nil, length-append, drop_of_length-le, length-take-le, take, arith, inl, inr, suc, not}
-use Rattle.std.proofs.lemmas.Bool.{cases_lt, ne_eqb, eqb-true, and_parts, le-leb, lt-ltb}
+use Rattle.std.proofs.lemmas.Bool.{cases_lt, ne_eqb, eqb-true, and_parts, le-leb, lt-ltb, lt-leb}
 use Rattle.std.proofs.lemmas.List.{drop_at}
+use Rattle.std.proofs.lemmas.List.Sums.{take_while-cons}
 use Rattle.std.specs.Io.KnownBytes.{Consumes, IsAtEnd}
 use Rattle.camac_branch.specs.Branch.{Answer}
 use Rattle.camac_answer.specs.declared.fault.AnswerRule.{AnswerRule}
 use Rattle.camac_answer.specs.declared.fault.AnswerRule.TheVariants.{LineShape, TooMany}
 use Rattle.camac_answer.specs.Lines.{lines, first_line, has_shape, fields_answer, line_answer, with_first, is_inside}
 use Rattle.camac_answer.specs.Reading.{Reading, Answered, broken, no_more, with_line, reading_from}
-use Rattle.camac_answer.specs.Answers.{left_in, IsNext, judged, next_answer, window}
-use Rattle.std.proofs.lemmas.List.Sums.{take_while-cons}
+use Rattle.camac_answer.specs.Answers.{left_in, IsNext, judged, next_answer, window, AnswersAreFew}
+
+-- What one call reads of a text.
 
 -- The first line of a text, and what follows it.
 
@@ -178,3 +180,20 @@ module _ (limit : ℕ) where
   -- a line with as much room as judges it
   pub room_for : (n w : ℕ) (room : List ℕ) → length room ≡ 20 → w ≡ window limit n → length (take w room) ≡ window limit n
   room_for n w room size same = length-take-le w room (omega (arith, size, same, window_to (nat_lt n limit))) ∙ same
+
+-- A text gives no more answers than it may.
+
+few_line : (limit n : ℕ) (r : Result Answer AnswerRule) (rest : Reading) → length rest.answers + (n + 1) ≤ limit → length (with_line n r rest).answers + n ≤ limit
+few_line limit n (Ok a) rest h = omega (arith, h)
+few_line limit n (Err rule) rest h = omega (arith, h)
+
+few_from : (limit n : ℕ) (ls : List (List ℕ)) → n ≤ limit → length (reading_from limit n ls).answers + n ≤ limit
+few_from limit n [] h = omega (arith, h)
+few_from limit n (l ∷ ls) h =
+    elim (cases_lt n limit) [
+      | inl less ↦ rw (lt-leb limit n less) (few_line limit n (line_answer l) (reading_from limit (n + 1) ls) (few_from limit (n + 1) ls (omega (arith, less))))
+      | inr more ↦ rw (le-leb limit n more) (omega (arith, h))
+    ]
+
+pub few : AnswersAreFew
+few limit text = let h = few_from limit 0 (lines text) (omega arith) in omega (arith, h)

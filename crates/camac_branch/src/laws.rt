@@ -5,7 +5,7 @@ ghost use Rattle.camac_branch.specs.Builders.{CratesAreAdded, StationsAreAdded, 
 
 /// Bit k is in the pattern of a graded-L operation (IEEE 596) exactly where the answer's pattern has it, and a station of a crate whose
 /// demand output is enabled has it in the plan.
-#[tactic(auto, using(crate::proofs::Enabled::patterns_are_of_stations))]
+#[tactic(auto, using(crate::proofs::Crates::patterns_are_of_stations))]
 pub fn patterns_are_of_stations()
     ensures { PatternsAreOfStations }
 {}

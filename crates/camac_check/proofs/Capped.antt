@@ -1,13 +1,14 @@
--- Costs that are cut at 64 bits are judged as the costs themselves.
+-- Costs that are cut at 64 bits: they are judged as the costs themselves, and so is what a body needs.
 use Rattle.std.proofs.Common.{◌≡◌, ℕ, ◌+◌, ◌-◌, ◌*◌, ◌^◌, zero, suc, ◌<◌, ◌≤◌, Bool, true, false, Option, Some, None, Result, Ok, Err, refl, sym, ap, ◌∙◌, ⊎_elim, lit<, arith}
-use Rattle.std.specs.Prelude.{◌&&◌, min, nat_lt, nat_le, slice_get, unwrap_or}
 use Rattle.std.proofs.lemmas.Bool.{leb-true, lt-leb, le-leb, cases_lt}
+use Rattle.std.specs.Prelude.{◌&&◌, min, nat_lt, nat_le, slice_get, unwrap_or, if◌then◌else◌}
 use Rattle.camac_func.specs.Class.{class_of}
 use Rattle.camac_func.specs.declared.code.FunctionClass.TheVariants.{Read, Write, Control}
 use Rattle.camac_lang.specs.declared.word.WordSize.{WordSize}
 use Rattle.camac_lang.specs.Tree.{Expression, Move, no_data, into, from, Statement, assign, set_register, single, address_scan, q_stop, q_repeat, put, crate_call, lam_call, choose, choose_else, for_, for_each, while_, locked, call, Block, done, next, Procedure, Service}
+use Rattle.camac_lang.specs.declared.spot.Spot.{Spot}
 use Rattle.camac_esone.specs.Calls.{lam_function}
-use Rattle.camac_branch.specs.Plan.{crate_waits}
+use Rattle.camac_branch.specs.Plan.{crate_waits, Layout}
 use Rattle.camac_model.specs.Fine.{Bounds, annotated}
 use Rattle.camac_model.specs.Meaning.{fits_size}
 use Rattle.camac_range.specs.Number.{greatest}
@@ -27,7 +28,6 @@ use Rattle.camac_rules.specs.Conditions.{split}
 use Rattle.camac_rules.specs.Costs.{costs, no_costs, plus, choice_costs, lock_costs, loop_costs, Verdict, verdict, unreached}
 use Rattle.camac_rules.specs.Capped.{capped}
 use Rattle.camac_rules.specs.Addresses.{command_widths}
-use Rattle.camac_check_loops.proofs.Counts.{scaled}
 use Rattle.camac_rules.specs.Cycles.{Context, Around, alone_in, with_locked, may_write, same_class, single_rule}
 use Rattle.camac_rules.specs.Loops.{with_fixed, for_limits, for_head, for_after, keeps_hold_after, turns_between, while_head, turn_bound}
 use Rattle.camac_rules.specs.Procedures.{ranges_of, arguments_fit, at_entry}
@@ -38,11 +38,18 @@ use Rattle.camac_rules.specs.Statements.{greatest_word, accept_statement, accept
 use Rattle.camac_rules.specs.Each.{each_from, each_begins}
 use Rattle.camac_rules.specs.EachLimit.{count_block}
 use Rattle.camac_rules.specs.Accept.{at_start, own_body, within, accept_procedure, accept_service}
-pub use Rattle.camac_rules.proofs.EachCosts.{cut, cut_all}
 use Rattle.camac_rules.proofs.EachCosts.{each_cut}
+use Rattle.camac_check_loops.proofs.Counts.{scaled}
 use Rattle.camac_check_simple.specs.declared.context.Context as code
 use Rattle.camac_check_simple.specs.Gives.{by_code, by_rules}
-use Rattle.camac_lang.specs.declared.spot.Spot.{Spot}
+use Rattle.camac_names.specs.declared.fault.LinkCase.TheVariants.{Words}
+use Rattle.camac_names.specs.declared.fault.LinkRule.TheVariants.{EventAboveBuffer}
+use Rattle.camac_check.specs.declared.fault.LeastFault.{LeastFault}
+use Rattle.camac_check.specs.declared.fault.LeastFault.TheVariants as least
+use Rattle.camac_check.specs.Least.{and_then, checked, event_fits, most, service_needs}
+pub use Rattle.camac_rules.proofs.EachCosts.{cut, cut_all}
+
+-- Costs that are cut at 64 bits are judged as the costs themselves.
 
 -- these costs stay at the greatest number of 64 bits
 abbrev pub in_code : Context → Context
@@ -247,3 +254,38 @@ procedure_cut context p hc hw hs =
     (if_reached unreached (at_entry p.parameters) (accept_block (by_code context) around p.body))
     (if_reached unreached (at_entry p.parameters) (accept_block (by_rules context) around p.body))
     (if_reached_cut (at_entry p.parameters) (accept_block (by_code context) around p.body) (accept_block (by_rules context) around p.body) (block_cut (by_rules context) around p.body)))
+
+-- What a body needs, by costs that are cut at 64 bits.
+
+event_cut : (place : Body) (plan : Layout) (n : ℕ) (spot : Spot) → event_fits place plan (min n (2 ^ 64 - 1)) spot ≡ event_fits place plan n spot
+event_cut place plan n spot =
+    let k : ℕ = 2 ^ 64 - 1 in
+    let fits : ℕ → Result (Unit {0}) LeastFault = λ w. if nat_le w plan.buffer then Ok tt else Err (least.Link EventAboveBuffer spot (Words w plan.buffer)) in
+    let fails : ℕ → Result (Unit {0}) LeastFault = λ w. Err (least.Check TooManyWords spot (budget place w greatest)) in
+    ⊎_elim
+    (λ more.
+    ap (λ b. if b then fits (min n k) else fails (min n k)) (lt-leb (min n k) greatest (omega (arith, more)))
+    ∙ ap (λ case. Err (least.Check TooManyWords spot case)) (told_cut place n greatest) ∙ sym (ap (λ b. if b then fits n else fails n) (lt-leb n greatest more)))
+    (λ le. let same : min n k ≡ n = omega (arith, le) in ap (λ m. event_fits place plan m spot) same)
+    (cases_lt greatest n)
+
+-- what follows the body
+abbrev judged : Body → Layout → Spot → Verdict → Result Bounds LeastFault
+judged place plan spot v = and_then (event_fits place plan v.costs.words spot) (λ _. checked (within place most v.costs spot))
+
+judged_cut : (place : Body) (plan : Layout) (spot : Spot) (v : Verdict) → judged place plan spot (cut v) ≡ judged place plan spot v
+judged_cut place plan spot v =
+    ap (λ x. and_then x (λ _. checked (within place most (capped v.costs) spot))) (event_cut place plan v.costs.words spot)
+    ∙ ap (λ x. and_then (event_fits place plan v.costs.words spot) (λ _. checked x)) (within_cut place most v.costs spot (lit< tt) (lit< tt) (lit< tt))
+
+finish_needs : (place : Body) (plan : Layout) (spot : Spot) (q r : Result Verdict Fault) → q ≡ cut_all r → and_then (checked q) (judged place plan spot) ≡ and_then (checked r) (judged place plan spot)
+unfolding and_then
+finish_needs place plan spot q (Ok v) e = ap (λ x. and_then (checked x) (judged place plan spot)) e ∙ judged_cut place plan spot v
+finish_needs place plan spot q (Err f) e = ap (λ x. and_then (checked x) (judged place plan spot)) e
+
+pub needs_cut : (context : code.Context) (v : Service) → service_needs (by_code context) v ≡ service_needs (by_rules context) v
+needs_cut context v =
+    let around : Around = alone_in (body.Service v.lam) in
+    ap (λ x. and_then (checked (count_block (body.Service v.lam) v.body 0)) (λ _. x))
+    (finish_needs (body.Service v.lam) context.plan.now v.spot (accept_block (by_code context) around v.body at_start) (accept_block (by_rules context) around v.body at_start)
+    (block_cut (by_rules context) around v.body at_start))

@@ -164,7 +164,7 @@ fn accept_in_64_bits(
 }
 
 /// What a service needs, whatever its heading says.
-#[tactic(auto, using(crate::proofs::Needs::needs_cut))]
+#[tactic(auto, using(crate::proofs::Capped::needs_cut))]
 pub fn service_needs(
     alloc: Global,
     context: &Context,

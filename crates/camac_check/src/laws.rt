@@ -3,7 +3,7 @@
 ghost use Rattle.camac_check.specs.Refusals.{FirstIsRefusal};
 
 /// The first of all refusals is the one that `check` tells, and there is none exactly if it accepts.
-#[tactic(auto, using(crate::proofs::FirstRefusal::first_is_refusal))]
+#[tactic(auto, using(crate::proofs::Judged::first_is_refusal))]
 pub fn first_is_refusal()
     ensures { FirstIsRefusal }
 {}

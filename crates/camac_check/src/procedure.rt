@@ -53,7 +53,7 @@ fn ranges_of(
 }
 
 // A procedure by its number. E21 where there is none.
-#[tactic(auto, using(crate::proofs::Called::procedures_by_number), unfolding(camac_rules::specs::Refusal::given))]
+#[tactic(auto, using(crate::proofs::Judged::procedures_by_number), unfolding(camac_rules::specs::Refusal::given))]
 fn procedure_at(
     procedures: &[Procedure],
     number: usize,

@@ -1,26 +1,183 @@
 -- What is told over several turns holds in each of them.
-use Rattle.std.proofs.Common.{◌≡◌, ℕ, zero, suc, ◌+◌, ◌-◌, ◌<◌, Bool, true, false, List, [], ◌∷◌, ◌++◌, Option, Some, None, Result, Ok, Err, refl, sym, ap, ◌∙◌, subst, ⊎_elim, arith}
-use Rattle.std.specs.Prelude.{◌&&◌, nat_eq, nat_le, nat_lt, if◌then◌else◌}
-use Rattle.std.proofs.lemmas.Bool.{and_parts, eqb-true, or_cases, ltb-true}
-use Rattle.camac_lang.specs.Tree.{Statement, assign, set_register, single, address_scan, q_stop, q_repeat, put, crate_call, lam_call, choose, choose_else, for_, for_each, while_, locked, call, Block, done, next}
+use Rattle.std.proofs.Common.{◌≡◌, ◌⊎◌, ℕ, zero, suc, ◌+◌, ◌-◌, ◌<◌, ◌≤◌, Bool, false, List, [], ◌∷◌, length, take, drop, Option, Some, None, Result, Ok, Err, refl, sym, ap, ap₂, ◌∙◌, ⊎_elim, arith, true, ◌++◌, subst}
+use Rattle.std.proofs.Math.Bool.{and-false}
+use Rattle.std.proofs.lemmas.List.{take_all}
+use Rattle.std.proofs.lemmas.Bool.{le-leb, le-ltb, lt-leb, lt-ltb, and_parts, eqb-true, or_cases, ltb-true}
+use Rattle.std.specs.Prelude.{◌&&◌, get_or, nat_eq, nat_le, nat_lt, if◌then◌else◌}
+use Rattle.camac_lang.specs.Tree.{Statement, for_each, Block, assign, set_register, single, address_scan, q_stop, q_repeat, put, crate_call, lam_call, choose, choose_else, for_, while_, locked, call, done, next}
 use Rattle.camac_range.specs.Interval.{only, IsWithin}
 use Rattle.camac_range.proofs.Within.{hull_left, hull_right}
+use Rattle.camac_check_known.specs.declared.fault.CheckFault.{CheckFault}
+use Rattle.camac_check_known.specs.declared.fault.CheckFault.TheVariants.{OutOfMemory, Broken}
+use Rattle.camac_check_loops.specs.declared.each.EachHead.{EachHead}
+use Rattle.camac_check_simple.specs.Gives.{Fails}
+use Rattle.camac_rules.specs.Costs.{Verdict, unreached}
+use Rattle.camac_rules.specs.Cycles.{Context, Around, with_locked}
+use Rattle.camac_rules.specs.Each.{each_begins}
+use Rattle.camac_rules.specs.Fault.{Fault}
+use Rattle.camac_rules.specs.Known.{Facts, Known, with_range, Region, range_at, region_at}
+use Rattle.camac_rules.specs.Loops.{with_fixed, for_limits, for_head, while_head}
+use Rattle.camac_rules.specs.Refusal.{go_on, if_reached}
+use Rattle.camac_rules.specs.Statements.{accept_block, accept_statement}
 use Rattle.camac_rules.specs.declared.case.Body.{Body}
 use Rattle.camac_rules.specs.Addresses.{crate_end, is_among}
 use Rattle.camac_rules.specs.Calls.{lock_rule}
 use Rattle.camac_rules.specs.Conditions.{Branches, split}
-use Rattle.camac_rules.specs.Costs.{Verdict}
-use Rattle.camac_rules.specs.Cycles.{Context, Around, with_locked}
-use Rattle.camac_rules.specs.Each.{each_begins}
-use Rattle.camac_rules.specs.Fault.{Fault}
 use Rattle.camac_rules.specs.Joined.{join_set}
-use Rattle.camac_rules.specs.Known.{Region, Facts, Known, range_at, region_at, with_range}
-use Rattle.camac_rules.specs.Loops.{with_fixed, for_limits, for_head, while_head}
-use Rattle.camac_rules.specs.Refusal.{go_on, if_reached}
-use Rattle.camac_rules.specs.Statements.{accept_statement, accept_block}
 use Rattle.camac_rules.proofs.Joined.{range_at-hulls, region_at-join}
-use Rattle.camac_check_costs.specs.Places.{Place, place, at_turn, begins_at, holds, holds_at, locked_in_both, place_of_both, told_of_both, left_by, over_turns, in_turns, place_inside, place_in_block, IsSetSo, HoldsAt, IsCovered, TurnsAreCovered}
-use Rattle.camac_check_costs.proofs.PlaceLaws.{Found, IsPlaced, body_of_both, if_so, placed_in, statement_in, was_reached, went_on}
+use Rattle.camac_check_costs.specs.Places.{Place, place, at_turn, told_of_both, left_by, over_turns, in_turns, place_in, place_in_block, begins_at, holds, holds_at, locked_in_both, place_of_both, place_inside, IsSetSo, HoldsAt, IsCovered, TurnsAreCovered}
+use Rattle.camac_check_costs.proofs.PlaceLaws.{Found as PlaceFound, IsPlaced, body_of_both, if_so, placed_in, statement_in, was_reached, went_on}
+
+-- What is told over turns, and what is known where one begins, one turn at a time.
+
+abbrev Found : Type 0
+Found = Result (Option Place) Fault
+
+-- ---- what a block leaves
+
+abbrev left : Known → Result Known Fault
+left o = Ok o
+
+pub known_left : (c : Context) (around : Around) (b : Block) (k : Facts) (v : Verdict) → if_reached unreached (Some k) (accept_block c around b) ≡ Ok v → left (left_by (accept_block c around b k)) ≡ left v.after
+unfolding if_reached
+known_left c around b k v e = ap (λ r. left (left_by r)) e
+
+pub none_left : (c : Context) (around : Around) (b : Block) (k : Facts) (f : Fault) → if_reached unreached (Some k) (accept_block c around b) ≡ Err f → left (left_by (accept_block c around b k)) ≡ left None
+unfolding if_reached
+none_left c around b k f e = ap (λ r. left (left_by r)) e
+
+pub left_is : (o p : Known) → ◌≡◌ {A = Result Known Fault} (Ok o) (Ok p) → o ≡ p
+left_is o p e = cc
+
+-- ---- turns
+
+pub over_at : (n m x v w : ℕ) (check : Facts → Result Verdict Fault) (find : Facts → Found) (k : Facts) (so_far : Option Place) → n ≡ m → v ≡ w
+    → over_turns n x v check find k so_far ≡ over_turns m x w check find k so_far
+over_at n m x v w check find k so_far p q = cc
+
+-- so many turns, of which i were told
+module _ (n i x v : ℕ) (check : Facts → Result Verdict Fault) (find : Facts → Found) (k : Facts) (so_far : Option Place) where
+  abbrev now : Facts
+  now = with_range x (only (v + i)) k
+
+  abbrev rest : ℕ → ℕ → Option Place → Found
+  rest m w here = if_reached (told_of_both so_far here) (left_by (check now)) (λ q. over_turns m x w check find q (told_of_both so_far here))
+
+  one_more : i < n → over_turns (n - i) x (v + i) check find k so_far ≡ go_on (find now) (rest (n - (i + 1)) (v + i + 1))
+  one_more lt = over_at (n - i) (suc (n - (i + 1))) x (v + i) (v + i) check find k so_far (omega arith) refl
+
+  pub turn_told : (here : Option Place) (q : Facts) → i < n → find now ≡ Ok here → left_by (check now) ≡ Some q
+      → over_turns (n - (i + 1)) x (v + (i + 1)) check find q (told_of_both so_far here) ≡ over_turns (n - i) x (v + i) check find k so_far
+  unfolding go_on if_reached
+  turn_told here q lt f l =
+      over_at (n - (i + 1)) (n - (i + 1)) x (v + (i + 1)) (v + i + 1) check find q (told_of_both so_far here) refl (omega arith)
+      ∙ sym
+      (one_more lt ∙ ap (λ r. go_on r (rest (n - (i + 1)) (v + i + 1))) f
+      ∙ ap (λ o. if_reached (told_of_both so_far here) o (λ u. over_turns (n - (i + 1)) x (v + i + 1) check find u (told_of_both so_far here))) l)
+
+  pub turn_ends : (here : Option Place) → i < n → find now ≡ Ok here → left_by (check now) ≡ None → over_turns (n - i) x (v + i) check find k so_far ≡ Ok (told_of_both so_far here)
+  unfolding go_on if_reached
+  turn_ends here lt f l =
+      one_more lt ∙ ap (λ r. go_on r (rest (n - (i + 1)) (v + i + 1))) f
+      ∙ ap (λ o. if_reached (told_of_both so_far here) o (λ u. over_turns (n - (i + 1)) x (v + i + 1) check find u (told_of_both so_far here))) l
+
+  pub turn_fails : (e : CheckFault) → i < n → Fails e (find now) → Fails e (over_turns (n - i) x (v + i) check find k so_far)
+  unfolding go_on
+  turn_fails OutOfMemory lt f = tt
+  turn_fails (Broken rule spot case) lt f = one_more lt ∙ ap (λ r. go_on r (rest (n - (i + 1)) (v + i + 1))) f
+
+  pub no_turn : n ≤ i → over_turns (n - i) x (v + i) check find k so_far ≡ Ok so_far
+  no_turn le = over_at (n - i) zero x (v + i) (v + i) check find k so_far (omega arith) refl
+
+-- before the turn that is chosen
+module _ (w x v : ℕ) (check : Facts → Result Verdict Fault) (k here : Facts) (t : Verdict) (lt : v < w) (moved : here ≡ with_range x (only v) k) (is : if_reached unreached (Some here) check ≡ Ok t) where
+  judged : check (with_range x (only v) k) ≡ Ok t
+  unfolding if_reached
+  judged = ap check (sym moved) ∙ is
+
+  one_before : at_turn check x v (w - v) k ≡ go_on (check (with_range x (only v) k)) (λ u. if_reached None u.after (at_turn check x (v + 1) (w - (v + 1))))
+  one_before =
+      let n : w - v ≡ suc (w - (v + 1)) = omega arith in
+      ap (λ i. at_turn check x v i k) n
+
+  pub turn_passed : (q : Facts) → t.after ≡ Some q → at_turn check x (v + 1) (w - (v + 1)) q ≡ at_turn check x v (w - v) k
+  unfolding go_on if_reached
+  turn_passed q after =
+      sym
+      (one_before ∙ ap (λ r. go_on r (λ u. if_reached None u.after (at_turn check x (v + 1) (w - (v + 1))))) judged
+      ∙ ap (λ o. if_reached None o (at_turn check x (v + 1) (w - (v + 1)))) after)
+
+  pub never_passed : t.after ≡ None → at_turn check x v (w - v) k ≡ Ok None
+  unfolding go_on if_reached
+  never_passed after =
+      one_before ∙ ap (λ r. go_on r (λ u. if_reached None u.after (at_turn check x (v + 1) (w - (v + 1))))) judged
+      ∙ ap (λ o. if_reached None o (at_turn check x (v + 1) (w - (v + 1)))) after
+
+-- the numbers that are chosen
+pub first_and_rest : (ts : List ℕ) → 1 ≤ length ts → ts ≡ get_or ts 0 0 ∷ take (length ts - 1) (drop 1 ts)
+first_and_rest [] some = absurd (omega (arith, some))
+first_and_rest (t ∷ ts) some =
+    let fits : length ts ≤ length (t ∷ ts) - 1 = omega arith in
+    ap (λ us. t ∷ us) (sym (take_all (length (t ∷ ts) - 1) ts fits))
+
+-- ---- an `each`
+
+-- of a statement inside
+module _ (c : Context) (around : Around) (head : EachHead) (body : Block) (k : Facts) (left turns : ℕ) (inside : nat_eq head.spot.left left ≡ false)
+    (begins : each_begins around head.spot head.variable head.first head.last ≡ Ok turns) where
+  abbrev statement : Statement
+  statement = for_each head.spot head.variable head.first head.last body
+
+  abbrev of_each : List ℕ → Found
+  of_each chosen = place_in c around statement k left chosen
+
+  abbrev found_in : (chosen : List ℕ) → Facts → Found
+  found_in chosen t = place_in_block c (with_fixed head.variable around) body t left chosen
+
+  abbrev judged_in : Facts → Result Verdict Fault
+  judged_in = accept_block c (with_fixed head.variable around) body
+
+  abbrev turned : List ℕ → Result ℕ Fault → Found
+  turned chosen r = go_on r (λ m. in_turns m head.variable head.first judged_in found_in k chosen)
+
+  begun : (chosen : List ℕ) → of_each chosen ≡ in_turns turns head.variable head.first judged_in found_in k chosen
+  unfolding go_on
+  begun chosen =
+      ap (λ b. if b then Ok (Some (place around statement k)) else turned chosen (each_begins around head.spot head.variable head.first head.last)) inside
+      ∙ ap (turned chosen) begins
+
+  pub over_all : of_each [] ≡ over_turns turns head.variable head.first judged_in (found_in []) k None
+  over_all = begun []
+
+  -- where a number is chosen, before others
+  module _ (value : ℕ) (inner : List ℕ) where
+    abbrev known_there : Result Known Fault
+    known_there = at_turn judged_in head.variable head.first (value - head.first) k
+
+    abbrev if_a_turn : Bool → Found
+    if_a_turn b = if b then go_on known_there (λ o. if_reached None o (found_in inner)) else Ok None
+
+    pub no_such_turn : (value < head.first) ⊎ (turns ≤ value - head.first) → of_each (value ∷ inner) ≡ Ok None
+    no_such_turn outside =
+        let none : (nat_le head.first value && nat_lt (value - head.first) turns) ≡ false =
+        ⊎_elim (λ below. ap (λ b. b && nat_lt (value - head.first) turns) (lt-leb head.first value below))
+        (λ past. ap (λ b. nat_le head.first value && b) (le-ltb (value - head.first) turns past) ∙ and-false (nat_le head.first value)) outside in
+        begun (value ∷ inner) ∙ ap if_a_turn none
+
+    pub in_that_turn : (o : Known) → head.first ≤ value → value - head.first < turns → known_there ≡ Ok o → of_each (value ∷ inner) ≡ if_reached None o (found_in inner)
+    unfolding go_on
+    in_that_turn o le lt known =
+        begun (value ∷ inner) ∙ ap if_a_turn (ap₂ ◌&&◌ (le-leb head.first value le) (lt-ltb (value - head.first) turns lt))
+        ∙ ap (λ r. go_on r (λ o. if_reached None o (found_in inner))) known
+
+    pub fails_before : (e : CheckFault) → head.first ≤ value → value - head.first < turns → Fails e known_there → Fails e (of_each (value ∷ inner))
+    unfolding go_on
+    fails_before OutOfMemory le lt f = tt
+    fails_before (Broken rule spot case) le lt f =
+        begun (value ∷ inner) ∙ ap if_a_turn (ap₂ ◌&&◌ (le-leb head.first value le) (lt-ltb (value - head.first) turns lt))
+        ∙ ap (λ r. go_on r (λ o. if_reached None o (found_in inner))) f
+
+-- What is told over several turns holds in each of them.
 
 -- ---- of two places
 
@@ -95,7 +252,7 @@ itself p = record { statement = refl; body = refl; ranges = λ x v w. w; registe
 
 -- ---- over turns
 
-pub covers_itself : (f : Found) (p : Place) → f ≡ Ok (Some p) → IsCovered p f
+pub covers_itself : (f : PlaceFound) (p : Place) → f ≡ Ok (Some p) → IsCovered p f
 covers_itself f p e = subst (IsCovered p) (sym e) (itself p)
 
 abbrev IfNumbered : Option Statement → Body → Option Place → Type 0
@@ -132,29 +289,29 @@ covered_by p None h = h
 covered_by p (Some told) h = h
 
 -- a turn that is judged, and those behind it
-goes_on : (p : Place) (f : Found) (g : Option Place → Found) → ((o : Option Place) → f ≡ Ok o → IsCovered p (g o)) → IsCovered p (go_on f g)
+goes_on : (p : Place) (f : PlaceFound) (g : Option Place → PlaceFound) → ((o : Option Place) → f ≡ Ok o → IsCovered p (g o)) → IsCovered p (go_on f g)
 unfolding go_on
 goes_on p (Ok o) g h = h o refl
 goes_on p (Err e) g h = tt
 
-goes_behind : (p : Place) (w : Option Place) (o : Known) (g : Facts → Found) → IfHeld p w → ((q : Facts) → IsCovered p (g q)) → IsCovered p (if_reached w o g)
+goes_behind : (p : Place) (w : Option Place) (o : Known) (g : Facts → PlaceFound) → IfHeld p w → ((q : Facts) → IsCovered p (g q)) → IsCovered p (if_reached w o g)
 unfolding if_reached
 goes_behind p w None g h more = covered_by p w h
 goes_behind p w (Some q) g h more = more q
 
-placed_by : (s : Option Statement) (b : Body) (f : Found) → ((q : Place) → f ≡ Ok (Some q) → IsPlaced s b q) → (o : Option Place) → f ≡ Ok o → IfNumbered s b o
+placed_by : (s : Option Statement) (b : Body) (f : PlaceFound) → ((q : Place) → f ≡ Ok (Some q) → IsPlaced s b q) → (o : Option Place) → f ≡ Ok o → IfNumbered s b o
 placed_by s b f each None e = tt
 placed_by s b f each (Some q) e = each q e
 
 -- what holds of what is told so far holds to the end
-stays : (p : Place) (count x v : ℕ) (check : Facts → Result Verdict Fault) (find : Facts → Found) (k : Facts) (so_far : Option Place) → IfHeld p so_far → IsCovered p (over_turns count x v check find k so_far)
+stays : (p : Place) (count x v : ℕ) (check : Facts → Result Verdict Fault) (find : Facts → PlaceFound) (k : Facts) (so_far : Option Place) → IfHeld p so_far → IsCovered p (over_turns count x v check find k so_far)
 stays p zero x v check find k so_far h = covered_by p so_far h
 stays p (suc n) x v check find k so_far h =
     goes_on p (find (with_range x (only v) k)) _ (λ here e.
     goes_behind p (told_of_both so_far here) (left_by (check (with_range x (only v) k))) _ (held_before p so_far here h)
     (λ q. stays p n x (v + 1) check find q (told_of_both so_far here) (held_before p so_far here h)))
 
-held_of : (p : Place) (f : Found) (o : Option Place) → f ≡ Ok o → IsCovered p f → IfHeld p o
+held_of : (p : Place) (f : PlaceFound) (o : Option Place) → f ≡ Ok o → IsCovered p f → IfHeld p o
 held_of p f None e h = subst (IsCovered p) e h
 held_of p f (Some told) e h = subst (IsCovered p) e h
 
@@ -174,7 +331,7 @@ came check x v turn k t e = go (check (with_range x (only v) k)) e
     go (Err f) h = absurd (let bad : ◌≡◌ {A = Result Known Fault} (Err f) (Ok (Some t)) = h in cc)
 
 -- what is told over all turns holds in this one
-pub turn_covered : (s : Option Statement) (b : Body) (p : Place) (count x v : ℕ) (check : Facts → Result Verdict Fault) (find : Facts → Found) (k : Facts) (so_far : Option Place)
+pub turn_covered : (s : Option Statement) (b : Body) (p : Place) (count x v : ℕ) (check : Facts → Result Verdict Fault) (find : Facts → PlaceFound) (k : Facts) (so_far : Option Place)
     → ((t : Facts) (q : Place) → find t ≡ Ok (Some q) → IsPlaced s b q) → IfNumbered s b so_far
     → (turn : ℕ) → turn < count → (t : Facts) → at_turn check x v turn k ≡ Ok (Some t) → IsCovered p (find t) → IsCovered p (over_turns count x v check find k so_far)
 unfolding if_reached
@@ -196,30 +353,30 @@ turn_covered s b p (suc n) x v check find k so_far each i (suc turn) lt t at h =
 
 -- ---- places
 
-covers_here : (b : Bool) (here p : Place) (f g : Found) → (g ≡ Ok (Some p) → IsCovered p f) → (if b then Ok (Some here) else g) ≡ Ok (Some p) → IsCovered p (if b then Ok (Some here) else f)
+covers_here : (b : Bool) (here p : Place) (f g : PlaceFound) → (g ≡ Ok (Some p) → IsCovered p f) → (if b then Ok (Some here) else g) ≡ Ok (Some p) → IsCovered p (if b then Ok (Some here) else f)
 covers_here true here p f g h e = covers_itself (Ok (Some here)) p e
 covers_here false here p f g h e = h e
 
-in_either : (b : Bool) (p : Place) (first first' other other' : Found) → (first' ≡ Ok (Some p) → IsCovered p first) → (other' ≡ Ok (Some p) → IsCovered p other)
+in_either : (b : Bool) (p : Place) (first first' other other' : PlaceFound) → (first' ≡ Ok (Some p) → IsCovered p first) → (other' ≡ Ok (Some p) → IsCovered p other)
     → (if b then first' else other') ≡ Ok (Some p) → IsCovered p (if b then first else other)
 in_either true p first first' other other' h g e = h e
 in_either false p first first' other other' h g e = g e
 
-covers_step : {A : Type 0} (r : Result A Fault) (p : Place) (f g : A → Found) → ((y : A) → g y ≡ Ok (Some p) → IsCovered p (f y)) → go_on r g ≡ Ok (Some p) → IsCovered p (go_on r f)
+covers_step : {A : Type 0} (r : Result A Fault) (p : Place) (f g : A → PlaceFound) → ((y : A) → g y ≡ Ok (Some p) → IsCovered p (f y)) → go_on r g ≡ Ok (Some p) → IsCovered p (go_on r f)
 unfolding go_on
 covers_step (Ok y) p f g h e = h y e
 covers_step (Err fault) p f g h e = tt
 
-covers_reached : (o : Known) (p : Place) (f g : Facts → Found) → ((t : Facts) → g t ≡ Ok (Some p) → IsCovered p (f t)) → if_reached None o g ≡ Ok (Some p) → IsCovered p (if_reached None o f)
+covers_reached : (o : Known) (p : Place) (f g : Facts → PlaceFound) → ((t : Facts) → g t ≡ Ok (Some p) → IsCovered p (f t)) → if_reached None o g ≡ Ok (Some p) → IsCovered p (if_reached None o f)
 unfolding if_reached
 covers_reached None p f g h e = absurd (cc)
 covers_reached (Some t) p f g h e = h t e
 
-if_same : (b : Bool) (p : Place) (f g : Found) → (g ≡ Ok (Some p) → IsCovered p f) → (if b then g else Ok None) ≡ Ok (Some p) → IsCovered p (if b then f else Ok None)
+if_same : (b : Bool) (p : Place) (f g : PlaceFound) → (g ≡ Ok (Some p) → IsCovered p f) → (if b then g else Ok None) ≡ Ok (Some p) → IsCovered p (if b then f else Ok None)
 if_same true p f g h e = h e
 if_same false p f g h e = absurd (cc)
 
-turns_covered : (s : Option Statement) (b : Body) (p : Place) (count x v : ℕ) (check : Facts → Result Verdict Fault) (find : List ℕ → Facts → Found) (k : Facts) (turns inner : List ℕ)
+turns_covered : (s : Option Statement) (b : Body) (p : Place) (count x v : ℕ) (check : Facts → Result Verdict Fault) (find : List ℕ → Facts → PlaceFound) (k : Facts) (turns inner : List ℕ)
     → ((t : Facts) (q : Place) → find [] t ≡ Ok (Some q) → IsPlaced s b q) → ((us vs : List ℕ) (t : Facts) → find (us ++ vs) t ≡ Ok (Some p) → IsCovered p (find us t))
     → in_turns count x v check find k (turns ++ inner) ≡ Ok (Some p) → IsCovered p (in_turns count x v check find k turns)
 turns_covered s b p count x v check find k (value ∷ us) inner each covers e =
@@ -240,14 +397,14 @@ mutual
   covered : (c : Context) (around : Around) (s : Statement) (k : Facts) (n : ℕ) (turns inner : List ℕ) (p : Place) → place_inside c around s k n (turns ++ inner) ≡ Ok (Some p)
       → IsCovered p (place_inside c around s k n turns)
   covered c around (choose spot test a) k n turns inner p e =
-      let find : List ℕ → Facts → Found = λ ts t. place_in_block c around a t n ts in
+      let find : List ℕ → Facts → PlaceFound = λ ts t. place_in_block c around a t n ts in
       covers_step (split spot test k) p (λ arms. if_reached None arms.holds (find turns)) (λ arms. if_reached None arms.holds (find (turns ++ inner))) (λ arms.
       covers_reached arms.holds p (find turns) (find (turns ++ inner)) (λ t. block_covered c around a t n turns inner p))
       e
   covered c around (choose_else spot test a b) k n turns inner p e =
-      let find : List ℕ → Facts → Found = λ ts t. place_in_block c around a t n ts in
-      let other : List ℕ → Facts → Found = λ ts t. place_in_block c around b t n ts in
-      let of_arms : List ℕ → Branches → Found = λ ts arms. if holds n a then if_reached None arms.holds (find ts) else if_reached None arms.fails (other ts) in
+      let find : List ℕ → Facts → PlaceFound = λ ts t. place_in_block c around a t n ts in
+      let other : List ℕ → Facts → PlaceFound = λ ts t. place_in_block c around b t n ts in
+      let of_arms : List ℕ → Branches → PlaceFound = λ ts arms. if holds n a then if_reached None arms.holds (find ts) else if_reached None arms.fails (other ts) in
       covers_step (split spot test k) p (of_arms turns) (of_arms (turns ++ inner)) (λ arms.
       in_either (holds n a) p (if_reached None arms.holds (find turns)) (if_reached None arms.holds (find (turns ++ inner)))
       (if_reached None arms.fails (other turns)) (if_reached None arms.fails (other (turns ++ inner)))
@@ -255,25 +412,25 @@ mutual
       (covers_reached arms.fails p (other turns) (other (turns ++ inner)) (λ t. block_covered c around b t n turns inner p)))
       e
   covered c around (locked spot x body) k n turns inner p e =
-      let find : List ℕ → ℕ → Found = λ ts i. place_in_block c (with_locked i around) body k n ts in
+      let find : List ℕ → ℕ → PlaceFound = λ ts i. place_in_block c (with_locked i around) body k n ts in
       covers_step (lock_rule c around spot x k) p (find turns) (find (turns ++ inner)) (λ i. block_covered c (with_locked i around) body k n turns inner p)
       e
   covered c around (for_ spot x e1 e2 keeps body) k n turns inner p e =
-      let find : List ℕ → Facts → Found = λ ts t. place_in_block c (with_fixed x around) body t n ts in
+      let find : List ℕ → Facts → PlaceFound = λ ts t. place_in_block c (with_fixed x around) body t n ts in
       covers_step (for_limits around spot x e1 e2 keeps k) p (λ l. if_reached None (for_head x l keeps body k) (find turns))
       (λ l. if_reached None (for_head x l keeps body k) (find (turns ++ inner))) (λ l.
       covers_reached (for_head x l keeps body k) p (find turns) (find (turns ++ inner)) (λ t. block_covered c (with_fixed x around) body t n turns inner p))
       e
   covered c around (for_each spot x v last body) k n turns inner p e =
       let check : Facts → Result Verdict Fault = accept_block c (with_fixed x around) body in
-      let find : List ℕ → Facts → Found = λ ts t. place_in_block c (with_fixed x around) body t n ts in
+      let find : List ℕ → Facts → PlaceFound = λ ts t. place_in_block c (with_fixed x around) body t n ts in
       covers_step (each_begins around spot x v last) p (λ count. in_turns count x v check find k turns) (λ count. in_turns count x v check find k (turns ++ inner)) (λ count.
       turns_covered (statement_in body n) around.body p count x v check find k turns inner (λ t q. placed_in c (with_fixed x around) body t n [] q)
       (λ us vs t. block_covered c (with_fixed x around) body t n us vs p))
       e
   covered c around (while_ spot test most x keeps body) k n turns inner p e =
-      let find : List ℕ → Facts → Found = λ ts t. place_in_block c around body t n ts in
-      let of_top : List ℕ → Facts → Found = λ ts top. go_on (split spot test top) (λ arms. if_reached None arms.holds (find ts)) in
+      let find : List ℕ → Facts → PlaceFound = λ ts t. place_in_block c around body t n ts in
+      let of_top : List ℕ → Facts → PlaceFound = λ ts top. go_on (split spot test top) (λ arms. if_reached None arms.holds (find ts)) in
       covers_step (while_head around.body spot most x keeps body k) p (of_top turns) (of_top (turns ++ inner)) (λ top.
       covers_step (split spot test top) p (λ arms. if_reached None arms.holds (find turns)) (λ arms. if_reached None arms.holds (find (turns ++ inner))) (λ arms.
       covers_reached arms.holds p (find turns) (find (turns ++ inner)) (λ t. block_covered c around body t n turns inner p)))
@@ -293,9 +450,9 @@ mutual
       → IsCovered p (place_in_block c around b k n turns)
   block_covered c around done k n turns inner p e = absurd (cc)
   block_covered c around (next s rest) k n turns inner p e =
-      let find : List ℕ → Facts → Found = λ ts t. place_in_block c around rest t n ts in
-      let here : List ℕ → Found = λ ts. if begins_at n s then Ok (Some (place around s k)) else place_inside c around s k n ts in
-      let behind : List ℕ → Found = λ ts. go_on (accept_statement c around s k) (λ v. if_reached None v.after (find ts)) in
+      let find : List ℕ → Facts → PlaceFound = λ ts t. place_in_block c around rest t n ts in
+      let here : List ℕ → PlaceFound = λ ts. if begins_at n s then Ok (Some (place around s k)) else place_inside c around s k n ts in
+      let behind : List ℕ → PlaceFound = λ ts. go_on (accept_statement c around s k) (λ v. if_reached None v.after (find ts)) in
       in_either (holds_at n s) p (here turns) (here (turns ++ inner)) (behind turns) (behind (turns ++ inner))
       (covers_here (begins_at n s) (place around s k) p (place_inside c around s k n turns) (place_inside c around s k n (turns ++ inner)) (covered c around s k n turns inner p))
       (covers_step (accept_statement c around s k) p (λ v. if_reached None v.after (find turns)) (λ v. if_reached None v.after (find (turns ++ inner))) (λ v.

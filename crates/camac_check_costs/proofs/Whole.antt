@@ -1,6 +1,7 @@
--- A body's bound and rows, from what its walk found or refused.
-use Rattle.std.proofs.Common.{◌≡◌, List, [], Option, Some, Result, Ok, Err, sym, ap, ap₂, ◌∙◌}
+-- A body's bound and rows, and the lines of costs.
+use Rattle.std.proofs.Common.{◌≡◌, List, [], Option, Some, Result, Ok, Err, sym, ap, ap₂, ◌∙◌, ℕ, ◌≤◌, zero, suc, ◌∷◌, length, drop, refl, arith}
 use Rattle.std.specs.Prelude.{unwrap_or}
+use Rattle.std.specs.List.{flat_map}
 use Rattle.camac_lang.specs.Tree.{Block}
 use Rattle.camac_model.specs.Fine.{Bounds}
 use Rattle.camac_rules.specs.Fault.{Fault}
@@ -10,10 +11,12 @@ use Rattle.camac_rules.specs.Costs.{Verdict, no_costs, unreached}
 use Rattle.camac_rules.specs.Cycles.{Context, Around}
 use Rattle.camac_rules.specs.Statements.{accept_block}
 use Rattle.camac_check_costs.specs.declared.bodies.Owner.{Owner}
-use Rattle.camac_check_rows.specs.declared.row.Row.{Row}
-use Rattle.camac_check_rows.specs.Rows.{block_rows, found, with_rows}
 use Rattle.camac_check_costs.specs.Body.{BodyRows}
 use Rattle.camac_check_costs.specs.Bodies.{body_costs, rows_if}
+use Rattle.camac_check_rows.specs.declared.row.Row.{Row}
+use Rattle.camac_check_rows.specs.Rows.{block_rows, found, with_rows}
+
+-- A body's bound and rows, from what its walk found or refused.
 
 abbrev pub body_of : Owner → Bounds → List Row → BodyRows
 body_of whose costs rows = record { owner = whose; costs = costs; rows = rows }
@@ -30,3 +33,13 @@ body_found c whose around b k v new kept rows e en ek er =
 pub body_refused : (c : Context) (whose : Owner) (around : Around) (b : Block) (k : Known) (f : Fault)
     → if_reached unreached k (accept_block c around b) ≡ Err f → body_of whose no_costs [] ≡ body_costs c whose around b k
 body_refused c whose around b k f e = ap (λ q. told whose q (block_rows c around b k)) (sym e)
+
+-- The lines of costs.
+
+pub none_left : {X : Type 0} (f : X → List ℕ) (xs : List X) (i : ℕ) → length xs ≤ i → flat_map f (drop i xs) ≡ []
+none_left f [] zero le = refl
+none_left f [] (suc i) le = refl
+none_left f (x ∷ xs) zero le = absurd (omega (arith, le))
+none_left f (x ∷ xs) (suc i) le =
+    let less : length xs ≤ i = omega (arith, le) in
+    none_left f xs i less

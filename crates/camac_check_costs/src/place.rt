@@ -129,7 +129,7 @@ pub(crate) fn is_in(statement: &Stmt, left: usize) -> bool
 }
 
 #[cycle(holds)]
-#[tactic(auto, using(crate::proofs::Placed::holds_on, crate::proofs::Placed::holds_here, crate::proofs::Placed::holds_none))]
+#[tactic(auto, using(crate::proofs::PlaceLaws::holds_on, crate::proofs::PlaceLaws::holds_here, crate::proofs::PlaceLaws::holds_none))]
 pub(crate) fn holds(block: &[Stmt], left: usize) -> bool
     ensures { result ≡ holds left (statements_of block.now) }
 {
@@ -143,7 +143,7 @@ pub(crate) fn holds(block: &[Stmt], left: usize) -> bool
 
 // The place of the statement that is looked for, in a block, if that can be reached.
 #[cycle(places)]
-#[tactic(auto, using(crate::proofs::Placed::place_here, crate::proofs::Placed::place_on, crate::proofs::Placed::place_refused, crate::proofs::Placed::place_done), unfolding(camac_rules::specs::Refusal::if_reached))]
+#[tactic(auto, using(crate::proofs::PlaceLaws::place_here, crate::proofs::PlaceLaws::place_on, crate::proofs::PlaceLaws::place_refused, crate::proofs::PlaceLaws::place_done), unfolding(camac_rules::specs::Refusal::if_reached))]
 fn place_in_block<'a>(
     alloc: Global,
     context: &Context,

@@ -54,7 +54,7 @@ fn locked_in_both(alloc: Global, first: &Around, second: &Around) -> Result<Arou
 }
 
 // What is known after a block, if it is accepted and its end can be reached.
-#[tactic(auto, using(crate::proofs::TurnsTold::known_left, crate::proofs::TurnsTold::none_left))]
+#[tactic(auto, using(crate::proofs::PlaceTurns::known_left, crate::proofs::PlaceTurns::none_left))]
 pub(crate) fn left_by(
     alloc: Global,
     context: &Context,

@@ -94,7 +94,7 @@ fn block_on(lam: usize, services: &[Service]) -> &[Stmt]
 
 // Puts the `each` loops around a statement in a block at the end, the outermost first.
 #[cycle(around)]
-#[tactic(auto, using(crate::proofs::Placed::around_on, crate::proofs::Placed::around_here, crate::proofs::Placed::around_none))]
+#[tactic(auto, using(crate::proofs::PlaceLaws::around_on, crate::proofs::PlaceLaws::around_here, crate::proofs::PlaceLaws::around_none))]
 fn push_each_around(
     loops: &mut Vec<EachLoop>,
     block: &[Stmt],
@@ -194,7 +194,7 @@ fn last_number(
     }
 }
 
-#[tactic(auto, using(crate::proofs::Placed::found))]
+#[tactic(auto, using(crate::proofs::PlaceLaws::found))]
 fn variable_in(script: &Script, body: Body, variable: usize) -> Option<&Name>
     ensures { option_copied result ≡ variable_in script.now body variable }
 {
@@ -207,7 +207,7 @@ fn variable_in(script: &Script, body: Body, variable: usize) -> Option<&Name>
     }
 }
 
-#[tactic(auto, using(crate::proofs::Placed::found))]
+#[tactic(auto, using(crate::proofs::PlaceLaws::found))]
 fn parameter_in(procedure: &Procedure, variable: usize) -> Option<&Name>
     ensures { option_copied result ≡ parameter_in variable (procedure_of procedure.now) }
 {

@@ -53,7 +53,7 @@ fn walked_widths(plan: &Plan, spot: Spot, f: Function, g: Region) -> Result<Rang
 }
 
 // The same where the region has one station alone, as most have, and nothing is refused: no walk is needed.
-#[tactic(auto, using(crate::proofs::Stations::installed_at, crate::proofs::Stations::widths_at))]
+#[tactic(auto, using(crate::proofs::Walks::installed_at, crate::proofs::Walks::widths_at))]
 fn widths_at_station(plan: &Plan, f: Function, g: Region) -> Option<Range>
     ensures installed { IfSome result (λ r. are_stations plan.now g ≡ true) }
     ensures widths { IfSome result (λ r. region_widths plan.now f g ≡ Some r) }

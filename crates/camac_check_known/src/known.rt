@@ -195,7 +195,7 @@ pub fn range_in(ranges: &[Range], variable: usize) -> Range
 }
 
 // Puts a value at a place. The list grows where it is too short.
-#[tactic(auto, using(crate::proofs::Lists::write_set))]
+#[tactic(auto, using(crate::proofs::Steps::write_set))]
 fn put_at<T: Copy>(items: &mut Vec<T>, place: usize, value: T, filler: T) -> Result<(), AllocError>
     ensures ok { OnOk result (items.new.items ≡ write filler items.old.items place value) }
     ensures err { OnErr result (items.new.items ≡ items.old.items) }

@@ -1,15 +1,16 @@
--- Counts that stay at the greatest number of 64 bits.
-use Rattle.std.proofs.Common.{◌≡◌, ℕ, zero, suc, ◌+◌, ◌-◌, ◌*◌, ◌^◌, ◌<◌, ◌≤◌, Ok, Err, Vec, sym, ap, ◌∙◌, ⊎_elim, arith}
-use Rattle.std.specs.Prelude.{min}
-use Rattle.std.specs.declared.alloc.Global.{Global}
+-- The counts of loops, and the numbers of an `each`.
+use Rattle.std.proofs.Common.{◌≡◌, ℕ, zero, suc, ◌+◌, ◌-◌, ◌*◌, ◌^◌, ◌<◌, ◌≤◌, Ok, Err, Vec, sym, ap, ◌∙◌, ⊎_elim, arith, true}
 use Rattle.std.proofs.Math.Nat.{mul-le-mul_left}
 use Rattle.std.proofs.lemmas.Bool.{cases_lt, le-leb, lt-leb}
+use Rattle.std.specs.Prelude.{min, ◌&&◌, nat_le}
+use Rattle.std.specs.declared.alloc.Global.{Global}
 use Rattle.camac_lang.specs.declared.tree.Stmt.{Stmt}
 use Rattle.camac_lang.specs.declared.tree.Stmt.TheVariants as rust
 use Rattle.camac_lang.specs.declared.tree.Stmt.TheFolds.{fold-roll-Stmt}
 use Rattle.camac_lang.specs.declared.tree.Stmt.TheOpen as layer
 use Rattle.camac_lang.specs.Tree.{Statement, for_each}
 use Rattle.camac_lang.specs.View.{statement_of, statements_of, statement_step}
+use Rattle.camac_lang.specs.declared.spot.Spot.{Spot}
 use Rattle.camac_rules.specs.declared.case.Body.{Body}
 use Rattle.camac_rules.specs.declared.case.Case.TheVariants.{Judged}
 use Rattle.camac_rules.specs.declared.rule.CheckRule.TheVariants.{TooManyTurns}
@@ -18,7 +19,9 @@ use Rattle.camac_rules.specs.EachLimit.{judged_limit}
 use Rattle.camac_rules.specs.Fault.{broken}
 use Rattle.camac_rules.specs.Refusal.{go_on, required}
 use Rattle.camac_check_loops.specs.Counting.{counted}
-use Rattle.camac_lang.specs.declared.spot.Spot.{Spot}
+use Rattle.camac_range.specs.Number.{greatest}
+
+-- Counts that stay at the greatest number of 64 bits.
 
 -- so many times a number that is cut
 pub scaled : (t n k : ℕ) → min (t * min n k) k ≡ min (t * n) k
@@ -63,3 +66,11 @@ past_limit place spot needed n e lt =
 -- an `each` of the code as the tree has it
 pub each_is : (spot : Spot) (x first last : ℕ) (body : Vec Stmt Global) → statement_of (rust.ForEach spot x first last body) ≡ for_each spot x first last (statements_of body.items)
 each_is spot x first last body = ap statement_of (sym (rust.rolls-ForEach spot x first last body)) ∙ fold-roll-Stmt Statement statement_step (layer.ForEach spot x first last body)
+
+-- The numbers of an `each` are those of code.
+
+pub numbers_fit : (v last : ℕ) → v < 2 ^ 32 → last < 2 ^ 32 → (nat_le v greatest && nat_le last greatest) ≡ true
+numbers_fit v last a b =
+    let v_fits : v ≤ greatest = omega (arith, a) in
+    let last_fits : last ≤ greatest = omega (arith, b) in
+    ap (λ t. t && nat_le last greatest) (le-leb v greatest v_fits) ∙ le-leb last greatest last_fits

@@ -18,7 +18,7 @@ pub struct EachHead {
 }
 
 /// How many turns a `for` with `each` has, if it may begin. E17 and E10, in this order. There is no E4, since its numbers are of 32 bits.
-#[tactic(auto, using(crate::proofs::Begins::numbers_fit), unfolding(camac_rules::specs::Refusal::go_on, camac_rules::specs::Refusal::required))]
+#[tactic(auto, using(crate::proofs::Counts::numbers_fit), unfolding(camac_rules::specs::Refusal::go_on, camac_rules::specs::Refusal::required))]
 pub fn each_begins(around: &Around, head: EachHead) -> Result<u32, CheckFault>
     ensures rule { Gives (λ n. n) result (each_begins around.now head.spot head.variable head.first head.last) }
     ensures turns { IfOk result (λ n. n ≡ head.last + 1 - head.first) }

@@ -1,12 +1,26 @@
--- Rows of turns, merged in place.
-use Rattle.std.proofs.Common.{◌≡◌, ℕ, zero, suc, ◌-◌, ◌<◌, List, [], ◌∷◌, ◌++◌, length, take, drop, set, get_or, None, append-nil, length-drop, refl, sym, ap, ◌∙◌, arith}
-use Rattle.std.specs.Prelude.{min}
+-- Rows of turns, merged in place, and the rows of what can't be reached.
+use Rattle.std.proofs.Common.{◌≡◌, ℕ, zero, suc, ◌-◌, ◌<◌, List, [], ◌∷◌, ◌++◌, length, take, drop, set, get_or, None, append-nil, length-drop, refl, sym, ap, ◌∙◌, arith, ◌+◌, map, append_assoc}
 use Rattle.std.proofs.lemmas.List.{take_all}
+use Rattle.std.specs.Prelude.{min}
 use Rattle.camac_model.specs.Fine.{Bounds}
-use Rattle.camac_rules.specs.Costs.{Verdict}
+use Rattle.camac_rules.specs.Costs.{Verdict, no_costs}
 use Rattle.camac_rules.specs.Known.{Known}
+use Rattle.camac_rules.specs.Refusal.{if_reached}
+use Rattle.camac_rules.specs.Cycles.{Context, Around}
+use Rattle.camac_rules.specs.Loops.{with_fixed}
 use Rattle.camac_check_rows.specs.declared.row.Row.{Row}
-use Rattle.camac_check_rows.specs.Turns.{merge, merged, Turned, turns_over}
+use Rattle.camac_check_rows.specs.Turns.{merge, merged, Turned, turns_over, turned}
+use Rattle.camac_check_rows.specs.declared.row.Kind.TheVariants as kind
+use Rattle.camac_check_rows.specs.declared.row.Detail.{Detail}
+use Rattle.camac_check_rows.specs.declared.row.Detail.TheVariants as detail
+use Rattle.camac_check_rows.specs.declared.inside.Weight.{Weight}
+use Rattle.camac_check_rows.specs.Statements.{kind_of, detail_of, first_row}
+use Rattle.camac_check_rows.specs.Weights.{once, first_arm, second_arm, inside_row}
+use Rattle.camac_check_rows.specs.Rows.{inside, block_verdict, statement_rows, block_rows}
+use Rattle.camac_lang.specs.Tree.{Condition, Statement, choose_else, for_each, Block, next, spot_of}
+use Rattle.camac_lang.specs.declared.spot.Spot.{Spot}
+
+-- Rows of turns, merged in place.
 
 pub merge_none : (limit : Bounds → Bounds) (rows : List Row) → merge limit rows [] ≡ rows
 merge_none limit [] = refl
@@ -40,3 +54,71 @@ rest_of rows i = take_all (length rows - i) (drop i rows) (omega (arith, length-
 pub none_turned : (limit : Bounds → Bounds) (n x v : ℕ) (judge : Known → Verdict) (rows : Known → List Row) (so_far : Turned) → turns_over limit n x v judge rows None so_far ≡ so_far
 none_turned limit zero x v judge rows so_far = refl
 none_turned limit (suc n) x v judge rows so_far = refl
+
+-- The rows of what can't be reached.
+
+map_both : {A B : Type 0} (f : A → B) (xs ys : List A) → map f (xs ++ ys) ≡ map f xs ++ map f ys
+map_both f [] ys = refl
+map_both f (x ∷ xs) ys = ap (λ zs. f x ∷ zs) (map_both f xs ys)
+
+-- a block that can't be reached, one statement on
+pub none_next : (c : Context) (around : Around) (w : Weight) (s : Statement) (rest : Block)
+    → inside c w (block_rows c around (next s rest) None) ≡ inside c w (statement_rows c around s None) ++ inside c w (block_rows c around rest None)
+unfolding if_reached
+none_next c around w s rest = map_both (inside_row c.limit w) (statement_rows c around s None) (block_rows c around rest None)
+
+-- a choice that can't be reached, a part at a time
+pub none_choice : (c : Context) (around : Around) (s : Statement) (spot : Spot) (test : Condition) (a b first_block second_block : Block) (n : Bounds) (told : Detail)
+    (first other : Row) (w1 w2 : Weight) (r0 r1 r2 r3 r4 : List Row)
+    → s ≡ choose_else spot test a b → first_block ≡ a → second_block ≡ b → n ≡ no_costs → told ≡ detail_of c s None
+    → first ≡ first_row (spot_of s) (kind_of s) 0 n n told → other ≡ first_row spot kind.Else 0 n no_costs detail.Nothing
+    → w1 ≡ first_arm n n → w2 ≡ second_arm n n
+    → r0 ≡ [] → r1 ≡ r0 ++ (first ∷ []) → r2 ≡ r1 ++ inside c w1 (block_rows c around first_block None)
+    → r3 ≡ r2 ++ (other ∷ []) → r4 ≡ r3 ++ inside c w2 (block_rows c around second_block None)
+    → r4 ≡ statement_rows c around s None
+unfolding if_reached
+none_choice c around s spot test a b first_block second_block n told first other w1 w2 r0 r1 r2 r3 r4 is ea eb en et ef eo e1 e2 p0 p1 p2 p3 p4 =
+    let first_is : first ≡ first_row spot kind.If 0 no_costs no_costs detail.Nothing =
+    ef
+    ∙ ap (λ m. first_row (spot_of s) (kind_of s) 0 m m told) en
+    ∙ ap (λ d. first_row (spot_of s) (kind_of s) 0 no_costs no_costs d) et
+    ∙ ap (λ q. first_row (spot_of q) (kind_of q) 0 no_costs no_costs (detail_of c q None)) is in
+    let other_is : other ≡ first_row spot kind.Else 0 no_costs no_costs detail.Nothing =
+    eo ∙ ap (λ m. first_row spot kind.Else 0 m no_costs detail.Nothing) en in
+    let w1_is : w1 ≡ first_arm no_costs no_costs = e1 ∙ ap (λ m. first_arm m m) en in
+    let w2_is : w2 ≡ second_arm no_costs no_costs = e2 ∙ ap (λ m. second_arm m m) en in
+    p4
+    ∙ ap (λ r. r ++ inside c w2 (block_rows c around second_block None)) (p3
+    ∙ ap (λ r. r ++ (other ∷ [])) (p2
+    ∙ ap (λ r. r ++ inside c w1 (block_rows c around first_block None)) (p1
+    ∙ ap (λ r. r ++ (first ∷ [])) p0)))
+    ∙ ap (λ ys. first ∷ ys) (append_assoc (inside c w1 (block_rows c around first_block None)) (other ∷ []) (inside c w2 (block_rows c around second_block None)))
+    ∙ ap (λ x. first ∷ (inside c w1 (block_rows c around x None) ++ (other ∷ inside c w2 (block_rows c around second_block None)))) ea
+    ∙ ap (λ x. first ∷ (inside c w1 (block_rows c around a None) ++ (other ∷ inside c w2 (block_rows c around x None)))) eb
+    ∙ ap (λ w. first ∷ (inside c w (block_rows c around a None) ++ (other ∷ inside c w2 (block_rows c around b None)))) w1_is
+    ∙ ap (λ w. first ∷ (inside c (first_arm no_costs no_costs) (block_rows c around a None) ++ (other ∷ inside c w (block_rows c around b None)))) w2_is
+    ∙ ap (λ o. first ∷ (inside c (first_arm no_costs no_costs) (block_rows c around a None) ++ (o ∷ inside c (second_arm no_costs no_costs) (block_rows c around b None)))) other_is
+    ∙ ap (λ f. f ∷ (inside c (first_arm no_costs no_costs) (block_rows c around a None) ++ (first_row spot kind.Else 0 no_costs no_costs detail.Nothing ∷ inside c (second_arm no_costs no_costs) (block_rows c around b None)))) first_is
+    ∙ sym (ap (λ q. statement_rows c around q None) is)
+
+-- an `each` that can't be reached, a part at a time
+pub none_each : (c : Context) (around : Around) (s : Statement) (spot : Spot) (x v last : ℕ) (body block : Block) (n : Bounds) (told : Detail) (own : Row) (w : Weight) (r0 r1 r2 : List Row)
+    → s ≡ for_each spot x v last body → block ≡ body → n ≡ no_costs → told ≡ detail_of c s None
+    → own ≡ first_row (spot_of s) (kind_of s) 0 n n told → w ≡ once
+    → r0 ≡ [] → r1 ≡ r0 ++ (own ∷ []) → r2 ≡ r1 ++ inside c w (block_rows c (with_fixed x around) block None)
+    → r2 ≡ statement_rows c around s None
+unfolding if_reached
+none_each c around s spot x v last body block n told own w r0 r1 r2 is eb en et eo ew p0 p1 p2 =
+    let own_is : own ≡ first_row spot kind.For 0 no_costs no_costs detail.Nothing =
+    eo
+    ∙ ap (λ m. first_row (spot_of s) (kind_of s) 0 m m told) en
+    ∙ ap (λ d. first_row (spot_of s) (kind_of s) 0 no_costs no_costs d) et
+    ∙ ap (λ q. first_row (spot_of q) (kind_of q) 0 no_costs no_costs (detail_of c q None)) is in
+    p2
+    ∙ ap (λ r. r ++ inside c w (block_rows c (with_fixed x around) block None)) (p1 ∙ ap (λ r. r ++ (own ∷ [])) p0)
+    ∙ ap (λ b. own ∷ inside c w (block_rows c (with_fixed x around) b None)) eb
+    ∙ ap (λ u. own ∷ inside c u (block_rows c (with_fixed x around) body None)) ew
+    ∙ ap (λ o. o ∷ inside c once (block_rows c (with_fixed x around) body None)) own_is
+    ∙ ap (λ (t : Turned). first_row spot kind.For 0 no_costs no_costs detail.Nothing ∷ inside c once t.rows)
+    (sym (none_turned c.limit (last + 1 - v) x v (block_verdict c (with_fixed x around) body) (block_rows c (with_fixed x around) body) (turned 0 (block_rows c (with_fixed x around) body None))))
+    ∙ sym (ap (λ q. statement_rows c around q None) is)

@@ -10,7 +10,7 @@ use camac_word::Word24;
 
 /// Whether a table has so many words; where none is written there is no need. A table that is not there is wrong at the statement that names it, as
 /// a LAM or a procedure is.
-#[tactic(auto, using(crate::proofs::Tables::word_lists))]
+#[tactic(auto, using(crate::proofs::Steps::word_lists))]
 pub fn has_words(tables: &[Table], table: Option<usize>, n: u32) -> bool
     ensures { result ≡ has_words (map (λ t. t.words) (map table_of tables.now)) table n }
 {
@@ -24,7 +24,7 @@ pub fn has_words(tables: &[Table], table: Option<usize>, n: u32) -> bool
 }
 
 /// Whether each word of a table fits a width.
-#[tactic(auto, using(crate::proofs::Tables::word_lists))]
+#[tactic(auto, using(crate::proofs::Steps::word_lists))]
 pub fn words_fit(tables: &[Table], table: Option<usize>, width: u32) -> bool
     requires { width ≤ 24 }
     ensures { result ≡ words_fit (map (λ t. t.words) (map table_of tables.now)) table width }
@@ -53,7 +53,7 @@ fn all_fit(words: &[Word24], width: u32) -> bool
 }
 
 /// How many words of its table a block transfer may send, 0 of a read.
-#[tactic(auto, using(crate::proofs::Tables::word_lists))]
+#[tactic(auto, using(crate::proofs::Steps::word_lists))]
 pub fn count_sent(tables: &[Table], table: Option<usize>) -> usize
     ensures { result ≡ length (words_sent (map (λ t. t.words) (map table_of tables.now)) table) }
 {
@@ -67,7 +67,7 @@ pub fn count_sent(tables: &[Table], table: Option<usize>) -> usize
 }
 
 /// The greatest of these words, 0 of none.
-#[tactic(auto, using(crate::proofs::Tables::word_lists))]
+#[tactic(auto, using(crate::proofs::Steps::word_lists))]
 pub fn greatest_sent(tables: &[Table], table: Option<usize>) -> u32
     ensures { result ≡ greatest_of (words_sent (map (λ t. t.words) (map table_of tables.now)) table) }
 {

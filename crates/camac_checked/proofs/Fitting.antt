@@ -1,17 +1,27 @@
--- Each checked script fits a store that has room for what the limits of the language, and of a plan's buffer, allow.
-use Rattle.std.proofs.Common.{◌≡◌, ℕ, ◌+◌, ◌≤◌, List, [], ◌∷◌, length, Bool, true, arith}
-use Rattle.std.specs.Prelude.{◌&&◌, IsTrue, nat_le}
+-- A checked script has as many bounds as services, and fits a store with room for what the limits allow.
+use Rattle.std.proofs.Common.{◌≡◌, List, [], ◌∷◌, length, refl, arith, ℕ, ◌+◌, ◌≤◌, Bool, true}
 use Rattle.std.proofs.lemmas.Bool.{and_from, le-leb}
+use Rattle.std.specs.Prelude.{◌&&◌, IsTrue, nat_le}
+use Rattle.camac_lang.specs.Tree.{Service, Script}
 use Rattle.camac_lang.specs.Depth.{script_depth}
 use Rattle.camac_lang.specs.Scope.{is_well_formed}
 use Rattle.camac_lang.specs.Tests.{total, most}
-use Rattle.camac_lang.specs.Tree.{Service, Script}
-use Rattle.camac_lang.proofs.Standing.{limits_hold}
-use Rattle.camac_branch.specs.Plan.{Layout, IsPlan}
-use Rattle.camac_model.specs.Fine.{Bounds}
-use Rattle.camac_model.specs.Headline.{AreWithinHeadings, WithinHeadings}
 use Rattle.camac_lang.specs.Fits.{fits}
+use Rattle.camac_lang.proofs.Standing.{limits_hold}
 use Rattle.camac_lang.proofs.Depths.{shallow, services_shallow}
+use Rattle.camac_branch.specs.Plan.{Layout, IsPlan}
+use Rattle.camac_model.specs.Fine.{Bounds, AreFine}
+use Rattle.camac_model.specs.Headline.{AreWithinHeadings, WithinHeadings}
+
+-- A checked script has as many bounds as services.
+
+pub fine_count : (plan : Layout) (script : Script) (ks : List Bounds) (vs : List Service) → AreFine plan script ks vs → length ks ≡ length vs
+fine_count plan script [] [] h = refl
+fine_count plan script [] (v ∷ vs) h = absurd h
+fine_count plan script (k ∷ ks) [] h = absurd h
+fine_count plan script (k ∷ ks) (v ∷ vs) h = let e = fine_count plan script ks vs h.1 in omega arith
+
+-- Each checked script fits a store that has room for what the limits of the language, and of a plan's buffer, allow.
 
 words_below : (plan : Layout) (ks : List Bounds) (vs : List Service) → plan.buffer ≤ 4096 → AreWithinHeadings plan ks vs → most (λ q. q.words) vs ≤ 4096
 words_below plan ks [] small h = omega arith

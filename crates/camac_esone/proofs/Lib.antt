@@ -3,5 +3,4 @@ pub mod Drives
 pub mod QStopLists
 pub mod QRepeatLists
 pub mod ScanLists
-pub mod Bounds
-pub mod Standing
+pub mod InProgress

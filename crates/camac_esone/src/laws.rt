@@ -28,25 +28,25 @@ pub fn any_replies_drive()
 {}
 
 /// Q-stop makes at most `max` cycles.
-#[tactic(auto, using(crate::proofs::Bounds::q_stop_bounded))]
+#[tactic(auto, using(crate::proofs::InProgress::q_stop_bounded))]
 pub fn q_stop_is_bounded()
     ensures { QStopIsBounded }
 {}
 
 /// Q-repeat makes at most `limit` cycles, and at most `max` with Q=1.
-#[tactic(auto, using(crate::proofs::Bounds::q_repeat_bounded))]
+#[tactic(auto, using(crate::proofs::InProgress::q_repeat_bounded))]
 pub fn q_repeat_is_bounded()
     ensures { QRepeatIsBounded }
 {}
 
 /// A scan makes at most `max` cycles with Q=1, and at most one with Q=0 at each station.
-#[tactic(auto, using(crate::proofs::Bounds::scan_bounded))]
+#[tactic(auto, using(crate::proofs::InProgress::scan_bounded))]
 pub fn scan_is_bounded()
     ensures { ScanIsBounded }
 {}
 
 /// A scan makes no more cycles than there are addresses from the first to the final one.
-#[tactic(auto, using(crate::proofs::Bounds::scan_within_addresses))]
+#[tactic(auto, using(crate::proofs::InProgress::scan_within_addresses))]
 pub fn scan_is_within_addresses()
     ensures { ScanIsWithinAddresses }
 {}

@@ -11,9 +11,7 @@ use Rattle.camac_event.specs.declared.fault.EventRule.TheVariants.{WrongMarker, 
 use Rattle.camac_event.specs.Spelling.{Entry, header, HasUsage, UsageFits, IsEvent, AreEvents}
 use Rattle.camac_event.specs.Reading.{Flaw, ◌>>=◌, flaw_at, number_at, tested_at, marker_at, gl_at, event_number_at, missed_at, usage_at, count_at, word_at, words_at, record_at, records_at, file_at}
 use Rattle.camac_event.specs.Broken.{Field, field, usage_parts, word_field, counted_words, record_fields, fields_from, header_field, file_fields, joined, FileFaultsStand}
-use Rattle.camac_event.proofs.Fields.{number_again}
-use Rattle.camac_event.proofs.Records.{marker_again, gl_again, event_number_again, count_again, word_again, missed_again}
-use Rattle.camac_event.proofs.Files.{header_again}
+use Rattle.camac_event.proofs.Files.{number_again, marker_again, gl_again, event_number_again, count_again, word_again, missed_again, header_again}
 use Rattle.camac_event.proofs.Reached.{bind_err, err_is, file_stops}
 
 -- what reads a file of this size from here on, and what may follow a reader of X

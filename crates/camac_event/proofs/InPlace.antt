@@ -13,9 +13,7 @@ use Rattle.camac_event.specs.declared.fault.EventRule.TheVariants.{WordTooWide, 
 use Rattle.camac_event.specs.Spelling.{Entry, record_of, records_from, IsEvent}
 use Rattle.camac_event.specs.Reading.{Flaw, ◌>>=◌, flaw_at, number_at, word_at, words_at, record_at, records_at}
 use Rattle.camac_event.specs.Records.{words_in, AreWords, events_read, events_in, AreRecords}
-use Rattle.camac_event.proofs.Fields.{IsBytes, IsBytes-drop, IsBytes-take, four_wide, bind_ok, guard_ok, holds_ok, ok_is}
-use Rattle.camac_event.proofs.Records.{record_again}
-use Rattle.camac_event.proofs.Files.{records_take, records_again}
+use Rattle.camac_event.proofs.Files.{IsBytes, IsBytes-drop, IsBytes-take, four_wide, bind_ok, guard_ok, holds_ok, ok_is, record_again, records_take, records_again}
 
 -- ---- words
 

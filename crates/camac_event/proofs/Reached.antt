@@ -14,9 +14,7 @@ use Rattle.camac_event.specs.declared.fault.EventRule.TheVariants.{WrongHeader, 
 use Rattle.camac_event.specs.Spelling.{Entry, usage_fields, record_of, records_from, header, HasUsage, UsageFits, IsEvent}
 use Rattle.camac_event.specs.Reading.{Flaw, ◌>>=◌, flaw_at, number_at, tested_at, marker_at, gl_at, event_number_at, missed_at, usage_at, count_at, word_at, words_at, record_at, records_at, header_at, file_at}
 use Rattle.camac_event.specs.Broken.{Field, field, usage_parts, word_field, counted_words, record_fields, fields_from, header_field, file_fields, joined, FieldsSpell, Reaches}
-use Rattle.camac_event.proofs.Fields.{IsBytes, four_wide, number_takes}
-use Rattle.camac_event.proofs.Records.{marker_takes, gl_takes, event_number_takes, count_takes, word_takes, usage_takes, record_takes}
-use Rattle.camac_event.proofs.Files.{header_takes}
+use Rattle.camac_event.proofs.Files.{IsBytes, four_wide, number_takes, marker_takes, gl_takes, event_number_takes, count_takes, word_takes, usage_takes, record_takes, header_takes}
 
 -- ---- the fields and the spelling
 

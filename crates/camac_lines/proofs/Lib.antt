@@ -1,8 +1,4 @@
-pub mod EventLines
-pub mod HeadingLines
 pub mod Lines
-pub mod Pairs
+pub mod Words
 pub mod Texts
 pub mod Neighbours
-pub mod Words
-pub mod Near

@@ -49,7 +49,7 @@ pub fn spaced(digits: [u8; 6]) -> [u8; 7]
 
 // The digit of a byte's high four bits.
 #[inline(always)]
-#[tactic(auto, using(crate::proofs::Pairs::PAIRS_at))]
+#[tactic(auto, using(crate::proofs::Words::PAIRS_at))]
 fn high_digit(byte: u8) -> u8
     ensures { result ≡ slice_index lower_digits (byte / 16) }
 {
@@ -58,7 +58,7 @@ fn high_digit(byte: u8) -> u8
 
 // The digit of a byte's low four bits.
 #[inline(always)]
-#[tactic(auto, using(crate::proofs::Pairs::PAIRS_at))]
+#[tactic(auto, using(crate::proofs::Words::PAIRS_at))]
 fn low_digit(byte: u8) -> u8
     ensures { result ≡ slice_index lower_digits (byte % 16) }
 {
@@ -71,7 +71,7 @@ static DECIMAL_PAIRS: [u8; 200] =
 
 /// The two digits of a number below 100.
 #[inline(always)]
-#[tactic(auto, using(crate::proofs::Pairs::DECIMAL_PAIRS_at))]
+#[tactic(auto, using(crate::proofs::Words::DECIMAL_PAIRS_at))]
 pub fn two_digits(number: usize) -> [u8; 2]
     requires { number < 100 }
     ensures { result ≡ two_digits number }

@@ -13,9 +13,8 @@ use Rattle.camac_model.specs.Laws.{Extends, RunEnd, RunsUseAnswers, RoundsSuffic
 use Rattle.camac_model.proofs.Rules.{Meets}
 use Rattle.camac_model.proofs.Kept.{Still, script_keeps}
 use Rattle.camac_model.proofs.Counts.{adding, AnyPiece, sum_of, Whole, whole_stepwise, all_uses}
-use Rattle.camac_model.proofs.Extends.{Further}
+use Rattle.camac_model.proofs.Runs.{Further, rounds_extend}
 use Rattle.camac_model.proofs.Rounds.{meets_mapped, rounds_meet}
-use Rattle.camac_model.proofs.Runs.{rounds_extend}
 
 module _ (plan : Layout) (script : Script) (n total : ℕ) where
   -- so many answers are used, and these are left

@@ -1,5 +1,3 @@
 pub mod Bits
 pub mod Entries
-pub mod Rows
-pub mod Sums
 pub mod Widths

@@ -1,4 +1,1 @@
-pub mod Products
-pub mod Quotients
-pub mod Left
 pub mod Within

@@ -13,19 +13,19 @@ pub fn differences_are_exact()
 {}
 
 /// The range of products is that of the products of all pairs, or none where some product is above `u32::MAX`.
-#[tactic(auto, using(crate::proofs::Products::products_exact))]
+#[tactic(auto, using(crate::proofs::Within::products_exact))]
 pub fn products_are_exact()
     ensures { ProductsAreExact }
 {}
 
 /// The range of quotients is that of all quotients by the literal, or none where it is 0.
-#[tactic(auto, using(crate::proofs::Quotients::quotients_exact))]
+#[tactic(auto, using(crate::proofs::Within::quotients_exact))]
 pub fn quotients_are_exact()
     ensures { QuotientsAreExact }
 {}
 
 /// The range of remainders contains each remainder by the literal; there is none only where it is 0.
-#[tactic(auto, using(crate::proofs::Quotients::rests_contained))]
+#[tactic(auto, using(crate::proofs::Within::rests_contained))]
 pub fn rests_are_contained()
     ensures { RestsAreContained }
 {}
@@ -47,7 +47,7 @@ pub fn inside_means_each_number()
 
 /// Narrowing leaves the smallest range around the numbers that compare so with some number of the other range,
 /// or none where there is no such number.
-#[tactic(auto, using(crate::proofs::Left::narrow_keeps))]
+#[tactic(auto, using(crate::proofs::Within::narrow_keeps))]
 pub fn narrow_keeps()
     ensures { NarrowKeeps }
 {}

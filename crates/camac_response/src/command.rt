@@ -58,7 +58,7 @@ fn is_only(range: Range, number: u32) -> bool
 }
 
 // From this sub-address on.
-#[tactic(auto, using(crate::proofs::Reach::any_next, crate::proofs::Reach::any_none))]
+#[tactic(auto, using(crate::proofs::Harmless::any_next, crate::proofs::Harmless::any_none))]
 fn spares_from(plan: &Plan, lam: Address, command: &Command, a: u32) -> bool
     requires { a ≤ 16 }
     ensures { result ≡ list_any (spares_at plan.now lam command.now) (range_with_len a (16 - a)) }
@@ -126,7 +126,7 @@ fn may_clear_by_plan(plan: &Plan, lam: Address, command: &Command) -> bool
 }
 
 // From this sub-address on.
-#[tactic(auto, using(crate::proofs::Reach::any_next, crate::proofs::Reach::any_none))]
+#[tactic(auto, using(crate::proofs::Harmless::any_next, crate::proofs::Harmless::any_none))]
 fn clears_from(plan: &Plan, lam: Address, command: &Command, a: u32) -> bool
     requires { a ≤ 16 }
     ensures { result ≡ list_any (clears_at plan.now lam command.now) (range_with_len a (16 - a)) }
@@ -135,7 +135,7 @@ fn clears_from(plan: &Plan, lam: Address, command: &Command, a: u32) -> bool
 }
 
 /// How many of its sub-addresses, from this one on, the plan lets clear it at its station, up to two.
-#[tactic(auto, using(crate::proofs::Reach::count_next, crate::proofs::Reach::count_none))]
+#[tactic(auto, using(crate::proofs::Harmless::count_next, crate::proofs::Harmless::count_none))]
 pub fn places_of(plan: &Plan, lam: Address, command: &Command, a: u32) -> u32
     requires { a ≤ 16 }
     ensures { result ≡ count (clears_at plan.now lam command.now) (range_with_len a (16 - a)) }
@@ -162,7 +162,7 @@ fn clears_at(plan: &Plan, lam: Address, command: &Command, a: u32) -> bool
 }
 
 // Whether the plan says it of a sub-address at the station of a look-at-me.
-#[tactic(auto, using(crate::proofs::Reach::no_crate_clears, crate::proofs::Reach::no_station_clears))]
+#[tactic(auto, using(crate::proofs::Harmless::no_crate_clears, crate::proofs::Harmless::no_station_clears))]
 fn declared_clears(plan: &Plan, lam: Address, a: u32, function: Function) -> bool
     requires { a < 16 }
     ensures { result ≡ declared_clears plan.now lam.crate_no lam.station a function }

@@ -8,7 +8,7 @@ ghost use Rattle.camac_response.specs.Laws.{AnswersInTime, LookAtMesAreAnswered,
 use camac_checked::Checked;
 
 /// While the rates are kept, no stretch of a bit takes more cycles than any number that is enough for all that is wanted within it.
-#[tactic(auto, using(crate::proofs::Along::stretches_end))]
+#[tactic(auto, using(crate::proofs::Answers::stretches_end))]
 pub fn stretches_end()
     ensures { StretchesEnd }
 {}
@@ -21,14 +21,14 @@ pub fn answers_in_time()
 {}
 
 /// Each operation of a run calls the service of the lowest bit in its pattern that has one, or none where none has.
-#[tactic(auto, using(crate::proofs::Lowest::lowest_are_called))]
+#[tactic(auto, using(crate::proofs::Lams::lowest_are_called))]
 pub fn lowest_are_called()
     ensures { LowestAreCalled }
 {}
 
 /// Where services clear their own look-at-mes and hide none, and modules do what a user believes of them: a service is called, and has ended, within
 /// the cycles of its response after its look-at-me was raised; and at each moment no look-at-me has waited longer.
-#[tactic(auto, using(crate::proofs::Again::look_at_mes_are_answered))]
+#[tactic(auto, using(crate::proofs::Waits::look_at_mes_are_answered))]
 pub fn look_at_mes_are_answered()
     ensures { LookAtMesAreAnswered }
 {}
@@ -47,7 +47,7 @@ pub fn harmless_serve()
 
 /// Where each service makes only commands that clear no other look-at-me and hide none, and one that clears its own, services do what is asked of
 /// them along every run.
-#[tactic(auto, using(crate::proofs::Reach::decided_serve))]
+#[tactic(auto, using(crate::proofs::Harmless::decided_serve))]
 pub fn decided_serve()
     ensures { DecidedServe }
 {}

@@ -26,9 +26,7 @@ use Rattle.camac_rules.proofs.Values.{Fits, Gives, range_each}
 use Rattle.camac_rules.proofs.Conditions.{inside_narrowed}
 use Rattle.camac_rules.proofs.Sound.{Paid, Untouched, Ended, step, SafePiece, StopsWell, EndsWell, Sound, SoundFor, meets_more}
 use Rattle.camac_rules.proofs.Actions.{Setting, of, with_given, value_of, written_other}
-use Rattle.camac_rules.proofs.Frame.{block_sets, Same, same_written, Leaves, block_leaves}
-use Rattle.camac_rules.proofs.Heads.{in_keeps, in_keeps_after, reaches_small}
-use Rattle.camac_rules.proofs.Turns.{meets_both, Between, inside_head, inside_set, paid_begun, paid_turns, paid_turn, stopped_turn, limit_is_most}
+use Rattle.camac_rules.proofs.Heads.{block_sets, Same, same_written, Leaves, block_leaves, in_keeps, in_keeps_after, reaches_small, meets_both, Between, inside_head, inside_set, paid_begun, paid_turns, paid_turn, stopped_turn, limit_is_most}
 use Rattle.camac_lang.specs.declared.spot.Spot.{Spot}
 
 -- by what a `for` may begin

@@ -20,9 +20,7 @@ use Rattle.camac_rules.proofs.Allows.{Allows, allowed, then_allowed, required_al
 use Rattle.camac_rules.proofs.Stores.{Place, around_of, holding, AreLocked, Inside, Reaches}
 use Rattle.camac_rules.proofs.Values.{range_each}
 use Rattle.camac_rules.proofs.Sound.{Paid, step, SafePiece, StopsWell, EndsWell, Sound, SoundFor, meets_more}
-use Rattle.camac_rules.proofs.Cycles.{permitted_wait, OneUsed, used, not_easy, none_left}
-use Rattle.camac_rules.proofs.Actions.{Setting, of, seen, with_given, value_of}
-use Rattle.camac_rules.proofs.Calls.{crate_is}
+use Rattle.camac_rules.proofs.Actions.{permitted_wait, OneUsed, used, not_easy, none_left, Setting, of, seen, with_given, value_of, crate_is}
 use Rattle.camac_lang.specs.declared.spot.Spot.{Spot}
 
 -- what is known of the crate of a lock: whatever state comes in, the expression gives it

@@ -6,21 +6,15 @@ pub mod Conditions
 pub mod Walks
 pub mod Regions
 pub mod Sound
-pub mod Cycles
 pub mod Actions
-pub mod Calls
 pub mod Held
 pub mod Statements
 pub mod Settings
-pub mod Frame
 pub mod Heads
-pub mod Turns
 pub mod ForLoops
 pub mod EachCosts
-pub mod Falls
 pub mod WhileLoops
-pub mod Driven
-pub mod Blocks
+pub mod Transfers
 pub mod Scans
 pub mod Lockless
 pub mod Routines
@@ -31,4 +25,3 @@ pub mod Accepted
 mod Rows
 mod TransferRows
 mod EachRows
-mod ProcedureRows

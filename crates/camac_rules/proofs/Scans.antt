@@ -28,7 +28,7 @@ use Rattle.camac_rules.proofs.Values.{range_each}
 use Rattle.camac_rules.proofs.Regions.{IsAllowed, some_of, widths_at}
 use Rattle.camac_rules.proofs.Sound.{SoundFor}
 use Rattle.camac_rules.proofs.Actions.{Setting, of, HasWidths, seen, with_given, with_test, value_of, address_of, reads}
-use Rattle.camac_rules.proofs.Driven.{IsBounded, transfer_sound}
+use Rattle.camac_rules.proofs.Transfers.{IsBounded, transfer_sound}
 use Rattle.camac_lang.specs.declared.spot.Spot.{Spot}
 use Rattle.camac_rules.specs.Addresses.{crate_end, station_end, in_plan, is_station, all_in, station_widths}
 use Rattle.camac_rules.proofs.Walks.{all_in_at}

@@ -21,12 +21,11 @@ use Rattle.camac_rules.proofs.Joined.{join_left, join_right}
 use Rattle.camac_rules.proofs.Conditions.{Decides, split_each}
 use Rattle.camac_rules.proofs.Values.{range_each, Fits, only_within}
 use Rattle.camac_rules.proofs.Sound.{words_push, Sound, SoundFor, paid_nothing, sound_then, sound_begun, Paid, Untouched, Ended, Stopped, StopsWell, EndsWell, meets_more}
-use Rattle.camac_rules.proofs.Actions.{Setting, of, HasWidths, seen, with_given, value_of, inside_written, written_other, single_sound}
-use Rattle.camac_rules.proofs.Calls.{crate_sound, lam_sound}
+use Rattle.camac_rules.proofs.Actions.{Setting, of, HasWidths, seen, with_given, value_of, inside_written, written_other, single_sound, crate_sound, lam_sound}
 use Rattle.camac_rules.proofs.Held.{MayLock, lock_allowed, lock_sound}
 use Rattle.camac_rules.proofs.ForLoops.{limits_allowed, for_sound}
 use Rattle.camac_rules.proofs.WhileLoops.{head_allowed, while_sound}
-use Rattle.camac_rules.proofs.Blocks.{q_stop_sound, q_repeat_sound}
+use Rattle.camac_rules.proofs.Transfers.{q_stop_sound, q_repeat_sound}
 use Rattle.camac_rules.proofs.Scans.{scan_sound}
 use Rattle.camac_rules.proofs.Lockless.{has_lock, block_has_lock}
 use Rattle.camac_rules.proofs.Routines.{Serves, call_sound}
@@ -39,7 +38,7 @@ use Rattle.camac_rules.specs.Fault.{Fault}
 use Rattle.camac_rules.specs.Addresses.{is_among}
 use Rattle.camac_rules.specs.Cycles.{may_write}
 use Rattle.camac_rules.specs.Each.{turn_costs, each_turns, each_from, each_begins, each_rule}
-use Rattle.camac_rules.proofs.Turns.{limit_is_most}
+use Rattle.camac_rules.proofs.Heads.{limit_is_most}
 
 -- What the rules accept of a `for` with `each` runs safely: one induction over its turns, without an invariant.
 

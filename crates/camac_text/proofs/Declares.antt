@@ -21,7 +21,7 @@ use Rattle.camac_text_cursor.proofs.Registers.{below_le}
 use Rattle.camac_text_statements.proofs.Blocks.{Body, after_moves}
 use Rattle.camac_text_statements.proofs.Bodies.{block_ok}
 use Rattle.camac_text.proofs.Variables.{DeclaresVariables, names_then_moves, new_variable_ok, no_variables, one_variable_more, variables_turn}
-use Rattle.camac_text.proofs.ProceduresRead.{ProcedureDeclaration, procedure_is}
+use Rattle.camac_text.proofs.ParametersRead.{ProcedureDeclaration, procedure_is}
 use Rattle.camac_text.proofs.TablesRead.{TableDeclaration, table_is}
 use Rattle.camac_lang.specs.declared.spot.Spot.{Spot}
 

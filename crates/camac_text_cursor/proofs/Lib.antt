@@ -1,6 +1,5 @@
 pub mod Sets
 pub mod Searches
-pub mod Sums
 pub mod Steps
 pub mod Loops
 pub mod Places

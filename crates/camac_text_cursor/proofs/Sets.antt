@@ -1,9 +1,12 @@
--- A set of choices: as a number, and as what was looked for.
-use Rattle.std.proofs.Common.{List, [], ◌∷◌, Option, ◌≡◌, ℕ, ◌*◌, ◌^◌, ◌%◌, ◌<◌, Bool, true, false, eqb, ◌||◌, bit_or, refl, sym, ap, ◌∙◌, arith}
-use Rattle.std.specs.Int.{bit_at}
+-- A set of choices, as a number and as what was looked for.
+use Rattle.std.proofs.Common.{◌≡◌, ℕ, zero, suc, ◌+◌, List, [], ◌∷◌, map, take, Some, ap, ◌∙◌, sym, length, get_or, ◌<◌, arith, add-one, Option, ◌*◌, ◌^◌, ◌%◌, Bool, true, false, eqb, ◌||◌, bit_or, refl}
+use Rattle.std.proofs.lemmas.Option.{slice_get-get_or}
 use Rattle.std.proofs.Math.Path.{fun_ext}
 use Rattle.std.proofs.lemmas.Bool.{eqb-true, eqb-false}
 use Rattle.std.proofs.lemmas.Nat.Bits.{bit_at_set_same, bit_at_set_other}
+use Rattle.std.specs.Prelude.{slice_get}
+use Rattle.std.specs.Int.{bit_at}
+use Rattle.camac_lang.specs.Tests.{total}
 use mir.Syntax.{w128}
 use denote.Enum.Declared.{tag_of, rowss}
 use denote.Enum.Enum.{tag_below}
@@ -12,15 +15,31 @@ use Rattle.camac_tokens.specs.contracts.token.Keyword as keyword_type
 use Rattle.camac_tokens.specs.contracts.token.Sign as sign_type
 use Rattle.camac_tokens.specs.declared.token.Keyword.{Keyword}
 use Rattle.camac_tokens.specs.declared.token.Sign.{Sign}
+use Rattle.camac_tokens.specs.declared.token.Token.{Token}
+use Rattle.camac_tokens.specs.declared.token.TokenKind.{TokenKind}
 use Rattle.camac_text_cursor.specs.declared.choice.Choice.{Choice}
 use Rattle.camac_text_cursor.specs.declared.choice.Choice.TheVariants as choice
 use Rattle.camac_text_cursor.specs.declared.choice.Choices.{Choices}
 use Rattle.camac_text_cursor.specs.Choice.{held}
-use Rattle.camac_tokens.specs.declared.token.Token.{Token}
-use Rattle.camac_tokens.specs.declared.token.TokenKind.{TokenKind}
 use Rattle.camac_text_cursor.specs.Expected.{suits, Admits}
 use Rattle.camac_text_cursor.specs.Tried.{place, none, added, Told, noted}
 use Rattle.camac_text_cursor.proofs.Places.{noted_all, carried, admits}
+
+-- Sums over the prefix of a list.
+
+same_value : {A : Type 0} (x y : A) → Some x ≡ Some y → x ≡ y
+same_value x y e = cc
+
+-- one more
+prefix_more : {A B : Type 0} (f : B → ℕ) (g : A → B) (xs : List A) (i : ℕ) (x : A) → slice_get xs i ≡ Some x → total f (map g (take (suc i) xs)) ≡ total f (map g (take i xs)) + f (g x)
+prefix_more f g [] i x e = absurd cc
+prefix_more f g (y ∷ ys) zero x e = let same : f (g y) ≡ f (g x) = ap (λ (z : _). f (g z)) (same_value y x e) in omega arith
+prefix_more f g (y ∷ ys) (suc i) x e = let rest : total f (map g (take (suc i) ys)) ≡ total f (map g (take i ys)) + f (g x) = prefix_more f g ys i x e in omega arith
+
+pub total_more : {A B : Type 0} (f : B → ℕ) (g : A → B) (xs : List A) (i : ℕ) (x : A) → i < length xs → x ≡ get_or xs i x → total f (map g (take (i + 1) xs)) ≡ total f (map g (take i xs)) + f (g x)
+total_more f g xs i x within is = rw add-one (prefix_more f g xs i x (slice_get-get_or xs i x within ∙ ap (λ (z : _). Some z) (sym is)))
+
+-- A set of choices: as a number, and as what was looked for.
 
 word_below : (w : Keyword) → tag_of keyword_type.the_type w < 47
 word_below w = tag_below (rowss keyword_type.the_type.parts) (keyword_type.the_type.to w)

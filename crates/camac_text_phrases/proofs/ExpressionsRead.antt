@@ -1,23 +1,93 @@
--- What readers of expressions leave.
-use Rattle.std.proofs.Common.{◌≡◌, ℕ, suc, ◌+◌, ◌≤◌, ◌<◌, Bool, true, nat_lt, nat_le, length, Option, Some, Ok, refl, sym, ap, subst, arith}
+-- Expressions step by step, and what their readers leave.
+use Rattle.std.proofs.Common.{◌≡◌, ◌-◌, List, [], ◌∷◌, ◌++◌, length, ap, ◌∙◌, append_assoc, arith, length-append, ℕ, true, Option, Some, None, Ok, refl, suc, ◌+◌, ◌≤◌, ◌<◌, Bool, nat_lt, nat_le, sym, subst}
 use Rattle.std.proofs.lemmas.Bool.{lt-ltb, ltb-true}
+use Rattle.camac_lang.specs.Tree.{Expression, number, variable, add, subtract, multiply, divide, remainder}
+use Rattle.camac_lang.specs.Nodes.{nodes_of, size}
+use Rattle.camac_lang.specs.declared.expression.Node.{Node}
 use Rattle.camac_lang.specs.Depth.{expression_depth}
 use Rattle.camac_lang.specs.Expressions.{operators, refers, is_term, is_factor, is_grouped}
-use Rattle.camac_lang.specs.Tree.{Expression, number, variable, add, subtract, multiply, divide, remainder}
+use Rattle.camac_lang.proofs.Terms.{length-nodes_of}
+use Rattle.camac_tokens.specs.declared.token.TokenKind.{TokenKind}
+use Rattle.camac_tokens.specs.declared.token.TokenKind.TheVariants as kind
+use Rattle.camac_tokens.specs.declared.fault.TextFault.{TextFault}
 use Rattle.camac_tokens.specs.declared.fault.Limit.TheVariants as limit
 use Rattle.camac_tokens.specs.declared.fault.TextCase.TheVariants as told
 use Rattle.camac_tokens.specs.declared.token.Sign.TheVariants as sign
-use Rattle.camac_tokens.specs.declared.token.TokenKind.{TokenKind}
-use Rattle.camac_tokens.specs.declared.token.TokenKind.TheVariants as kind
-use Rattle.camac_text_cursor.specs.declared.choice.Choice.{Choice}
+use Rattle.camac_text_cursor.specs.Tried.{Tried}
 use Rattle.camac_text_cursor.specs.declared.choice.Choice.TheVariants as choice
-use Rattle.camac_text_cursor.specs.Reading.{State, Reader, ◌>>=◌, ◌>>◌, give, advance, check, kind_of, missed, past, until}
-use Rattle.camac_text_cursor.specs.Readers.{number_here, any_number, used_variable}
-use Rattle.camac_text_phrases.specs.Expressions.{Counted, counted, operator, divisor, bracket_by, factor_by, factor_with, is_product_sign, product_by, product_turn, product_with, is_sum_sign, joined, sum_turn, sum_with}
+use Rattle.camac_text_cursor.specs.Reading.{State, kind_of, past, until, Reader, ◌>>=◌, ◌>>◌, give, advance, check, missed}
+use Rattle.camac_text_cursor.specs.Readers.{any_number, is_name, number_here, used_variable}
+use Rattle.camac_text_cursor.specs.Parser.{state, FailsWith}
+use Rattle.camac_text_cursor.specs.declared.cursor.Parser.{Parser}
+use Rattle.camac_text_cursor.specs.declared.choice.Choice.{Choice}
+use Rattle.camac_text_cursor.proofs.Loops.{then_fails}
 use Rattle.camac_text_cursor.proofs.Steps.{then_ok, ok_is, err_no_ok, until_keeps}
 use Rattle.camac_text_cursor.proofs.Moves.{AllFit, Moves, TakesOne, kind_fit, moved, unmoved, then_moves, one_moves, check_ok, number_ok, any_number_ok}
 use Rattle.camac_text_cursor.proofs.Uses.{used_variable_ok}
-use Rattle.camac_text_cursor.proofs.Registers.{both, below_le}
+use Rattle.camac_text_cursor.proofs.Registers.{both as both_of_registers, below_le}
+use Rattle.camac_text_phrases.specs.Expressions.{Counted, counted, bracketed, expression_at, factor_by, factor_with, is_product_sign, is_sum_sign, product_turn, product_with, sum_turn, sum_with, operator, divisor, bracket_by, product_by, joined}
+use Rattle.camac_text_phrases.specs.Views.{Leaf}
+
+-- The nodes of what is read behind those before it.
+
+-- an operator behind its operand
+pub one_more : (before left old new : List Node) (x : Node) → old ≡ before ++ left → new ≡ old ++ x ∷ [] → new ≡ before ++ (left ++ x ∷ [])
+one_more before left old new x is put = put ∙ ap (λ ns. ns ++ x ∷ []) is ∙ append_assoc before left (x ∷ [])
+
+-- an operand behind the other one
+pub both : (before left right old new : List Node) → old ≡ before ++ left → new ≡ old ++ right → new ≡ before ++ (left ++ right)
+both before left right old new is put = put ∙ ap (λ ns. ns ++ right) is ∙ append_assoc before left right
+
+-- how many there are of the right operand
+pub right_size : (e : Expression) (old new : List Node) → new ≡ old ++ nodes_of e → length new - length old ≡ size e
+right_size e old new put =
+    let n = ap length put ∙ length-append old (nodes_of e) in
+    let m = length-nodes_of e in
+    omega arith
+
+-- An expression, step by step: its first factor, the factors behind it, and the terms behind these.
+
+-- a number as the first factor
+number_next : (n : ℕ) (s : State) → kind_of s.rest ≡ Some (kind.Number n) → any_number s ≡ Ok (n, past s)
+unfolding any_number number_here
+number_next n s is = rw is refl
+
+pub number_taken : (room so_far n : ℕ) (s : State) → kind_of s.rest ≡ Some (kind.Number n) → factor_with (bracketed room) so_far s ≡ Ok (counted (number n) so_far, past s)
+unfolding factor_with
+number_taken room so_far n s is = rw is (rw (number_next n s is) refl)
+
+-- a variable as the first factor
+pub variable_taken : (room so_far n : ℕ) (s t : State) → is_name (kind_of s.rest) ≡ true → used_variable s ≡ Ok (n, t) → factor_with (bracketed room) so_far s ≡ Ok (counted (variable n) so_far, t)
+unfolding factor_with
+variable_taken room so_far n s t named taken = by (kind_of s.rest) named where
+  by : (at : Option TokenKind) → is_name at ≡ true → factor_by (bracketed room) so_far at s ≡ Ok (counted (variable n) so_far, t)
+  by (Some (kind.Name x)) is = rw taken refl
+  by _ is = absurd cc
+
+-- the first number or variable, or that there is none, where the parser's state stays
+pub leaf_stays : (room so_far : ℕ) (before : State) (first : Option Node) (p q : Parser) → state q ≡ state p → Leaf room so_far before (Ok first) p → Leaf room so_far before (Ok first) q
+leaf_stays room so_far before (Some n) p q same leaf = (leaf.0, rw same leaf.1)
+leaf_stays room so_far before None p q same leaf = rw same leaf
+
+module _ (room : ℕ) (s : State) where
+  pub factor_fails : (e : TextFault) (tried : Tried) → FailsWith e tried (factor_with (bracketed room) 0 s) → FailsWith e tried (expression_at room s)
+  unfolding expression_at sum_with product_with
+  factor_fails e tried failed = then_fails e tried _ _ (then_fails e tried _ _ (then_fails e tried _ _ failed))
+
+  pub products_fail : (e : TextFault) (tried : Tried) (x : Counted) (t : State) → factor_with (bracketed room) 0 s ≡ Ok (x, t) → FailsWith e tried (until choice.Product is_product_sign (product_turn (bracketed room)) x t) → FailsWith e tried (expression_at room s)
+  unfolding expression_at sum_with product_with
+  products_fail e tried x t first failed = rw first (then_fails e tried _ _ (then_fails e tried _ _ failed))
+
+  module _ (x y : Counted) (t u : State) (first : factor_with (bracketed room) 0 s ≡ Ok (x, t)) (second : until choice.Product is_product_sign (product_turn (bracketed room)) x t ≡ Ok (y, u)) where
+    pub sums_fail : (e : TextFault) (tried : Tried) → FailsWith e tried (until choice.Sum is_sum_sign (sum_turn (bracketed room)) y u) → FailsWith e tried (expression_at room s)
+    unfolding expression_at sum_with product_with
+    sums_fail e tried failed = rw first (rw second (then_fails e tried _ _ failed))
+
+    pub is_read : (z : Counted) (v : State) → until choice.Sum is_sum_sign (sum_turn (bracketed room)) y u ≡ Ok (z, v) → expression_at room s ≡ Ok (z.value, v)
+    unfolding expression_at sum_with product_with
+    is_read z v third = rw first (rw second (rw third refl))
+
+-- What readers of expressions leave.
 
 -- the sign of an operator is taken
 pub record Operator (so_far : ℕ) (s : State) (n : ℕ) (s' : State) : Type 0 where
@@ -151,8 +221,8 @@ module _ (room : ℕ) (inner : ℕ → Reader Counted) (inner_ok : (so_far : ℕ
       let next : a.0.0 ≡ suc x.operators = o.next in
       subst (λ (p : Counted × State). Reads is_term room n s0 p.0 p.1) (ok_is (counted (divide x.value b.0.0) a.0.0, b.0.1) y b.2) (record {
         moves = then_moves s0 a.0.1 b.0.1 to_a (one_moves a.0.1 (kind.Number b.0.0) b.0.1 d.one);
-        refers = λ h. both _ _ (left.refers h) (both _ _ (d.from_1) (kind_fit a.0.1.rest (kind.Number b.0.0) d.one.next (to_a.fit h)));
-        grouped = both _ _ left.grouped left.stands;
+        refers = λ h. both_of_registers _ _ (left.refers h) (both_of_registers _ _ (d.from_1) (kind_fit a.0.1.rest (kind.Number b.0.0) d.one.next (to_a.fit h)));
+        grouped = both_of_registers _ _ left.grouped left.stands;
         stands = refl;
         deep = left.deep;
         counts = omega arith;
@@ -169,8 +239,8 @@ module _ (room : ℕ) (inner : ℕ → Reader Counted) (inner_ok : (so_far : ℕ
       let next : a.0.0 ≡ suc x.operators = o.next in
       subst (λ (p : Counted × State). Reads is_term room n s0 p.0 p.1) (ok_is (counted (remainder x.value b.0.0) a.0.0, b.0.1) y b.2) (record {
         moves = then_moves s0 a.0.1 b.0.1 to_a (one_moves a.0.1 (kind.Number b.0.0) b.0.1 d.one);
-        refers = λ h. both _ _ (left.refers h) (both _ _ (d.from_1) (kind_fit a.0.1.rest (kind.Number b.0.0) d.one.next (to_a.fit h)));
-        grouped = both _ _ left.grouped left.stands;
+        refers = λ h. both_of_registers _ _ (left.refers h) (both_of_registers _ _ (d.from_1) (kind_fit a.0.1.rest (kind.Number b.0.0) d.one.next (to_a.fit h)));
+        grouped = both_of_registers _ _ left.grouped left.stands;
         stands = refl;
         deep = left.deep;
         counts = omega arith;
@@ -190,8 +260,8 @@ module _ (room : ℕ) (inner : ℕ → Reader Counted) (inner_ok : (so_far : ℕ
       let deep_z : expression_depth b.0.0.value ≤ room = right.deep in
       subst (λ (p : Counted × State). Reads is_term room n s0 p.0 p.1) (ok_is (counted (multiply x.value b.0.0.value) b.0.0.operators, b.0.1) y b.2) (record {
         moves = then_moves s0 a.0.1 b.0.1 to_a right.moves;
-        refers = λ h. both _ _ (left.refers h) (same_variables s0 a.0.1 b.0.0.value to_a (right.refers (to_a.fit h)));
-        grouped = both _ _ left.grouped (both _ _ left.stands (both _ _ right.grouped right.stands));
+        refers = λ h. both_of_registers _ _ (left.refers h) (same_variables s0 a.0.1 b.0.0.value to_a (right.refers (to_a.fit h)));
+        grouped = both_of_registers _ _ left.grouped (both_of_registers _ _ left.stands (both_of_registers _ _ right.grouped right.stands));
         stands = refl;
         deep = omega arith;
         counts = omega arith;
@@ -221,8 +291,8 @@ module _ (room : ℕ) (inner : ℕ → Reader Counted) (inner_ok : (so_far : ℕ
       let deep_z : expression_depth z.value ≤ room = right.deep in
       record {
         moves = then_moves s0 u t to_u right.moves;
-        refers = λ h. both _ _ (left.refers h) (same_variables s0 u z.value to_u (right.refers (to_u.fit h)));
-        grouped = both _ _ left.grouped (both _ _ right.grouped right.stands);
+        refers = λ h. both_of_registers _ _ (left.refers h) (same_variables s0 u z.value to_u (right.refers (to_u.fit h)));
+        grouped = both_of_registers _ _ left.grouped (both_of_registers _ _ right.grouped right.stands);
         stands = refl;
         deep = omega arith;
         counts = omega arith;
@@ -240,8 +310,8 @@ module _ (room : ℕ) (inner : ℕ → Reader Counted) (inner_ok : (so_far : ℕ
       let deep_z : expression_depth z.value ≤ room = right.deep in
       record {
         moves = then_moves s0 u t to_u right.moves;
-        refers = λ h. both _ _ (left.refers h) (same_variables s0 u z.value to_u (right.refers (to_u.fit h)));
-        grouped = both _ _ left.grouped (both _ _ right.grouped right.stands);
+        refers = λ h. both_of_registers _ _ (left.refers h) (same_variables s0 u z.value to_u (right.refers (to_u.fit h)));
+        grouped = both_of_registers _ _ left.grouped (both_of_registers _ _ right.grouped right.stands);
         stands = refl;
         deep = omega arith;
         counts = omega arith;

@@ -7,5 +7,3 @@ pub mod LocalConditions
 pub mod LocalKeeps
 pub mod ArgumentsRead
 pub mod LocalArguments
-pub mod NodesPut
-pub mod ExpressionSteps

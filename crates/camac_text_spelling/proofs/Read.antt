@@ -26,11 +26,10 @@ use Rattle.camac_text_spelling.specs.Pieces.{Prefix}
 use Rattle.camac_text_spelling.specs.Declarations as spell
 use Rattle.camac_text_spelling.specs.Declarations.{Passed, none_passed, pass}
 use Rattle.camac_text_spelling.specs.Laws.{SpelledTokensAreRead, SpelledIsRead, SpelledOnce, FaultSpellsNothing, RefusedIsNotSpelled}
-use Rattle.camac_text_spelling.proofs.Prefixes.{prefix_split}
-use Rattle.camac_text_spelling.proofs.Gives.{ok, while_turn}
-use Rattle.camac_text_spelling.proofs.Fresh.{take_all}
-use Rattle.camac_text_spelling.proofs.Walk.{passed_of, AreFirst, Limited, Stands, Closes, declaration_opens}
-use Rattle.camac_text_spelling.proofs.WalksBodies.{declaration_goes}
+use Rattle.camac_text_spelling.proofs.Takes.{prefix_split}
+use Rattle.camac_text_spelling.proofs.GivesExpressions.{ok, while_turn}
+use Rattle.camac_text_spelling.proofs.Walk.{take_all, passed_of, AreFirst, Limited, Stands, Closes, declaration_opens}
+use Rattle.camac_text_spelling.proofs.Walks.{declaration_goes}
 
 -- ---- the declarations in their order
 

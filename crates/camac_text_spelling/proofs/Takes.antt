@@ -1,28 +1,67 @@
--- Which pieces the tokens between two states are, and what readers of single tokens take.
-use Rattle.std.proofs.Common.{◌≡◌, ℕ, Bool, true, false, cond, eqb, nat_le, List, [], ◌∷◌, ◌++◌, Option, Some, None, Result, Ok, refl, sym, ap, subst, ◌∙◌, rules}
+-- Which pieces the tokens between two states are, one by one and in lists, and what readers of single tokens take.
+use Rattle.std.proofs.Common.{◌≡◌, ℕ, List, [], ◌∷◌, ◌++◌, Some, refl, sym, ap, subst, Bool, true, false, cond, eqb, nat_le, Option, None, Result, Ok, ◌∙◌, rules, append_assoc, suc, ◌+◌, map, length, arith}
 use Rattle.std.proofs.lemmas.Bool.{eqb-true}
+use Rattle.std.proofs.lemmas.List.{append-nil}
+use Rattle.std.proofs.lemmas.Slice.Eq.{bytes_eq-Decides}
 use Rattle.std.specs.Prelude.{slice_get}
-use denote.Enum.Bare.{same_true}
-use Rattle.camac_lang.specs.Expressions.{Callable}
-use Rattle.camac_lang.specs.Tree.{Text, Table, Lam, Procedure}
+use Rattle.std.specs.List.{position_from}
+use Rattle.std.specs.Str.{bytes_eq}
+use Rattle.camac_tokens.specs.declared.token.Token.{Token}
+use Rattle.camac_tokens.specs.declared.token.TokenKind.{TokenKind}
 use Rattle.camac_tokens.specs.contracts.token.Keyword as keyword_type
 use Rattle.camac_tokens.specs.contracts.token.Sign as sign_type
 use Rattle.camac_tokens.specs.declared.token.Keyword.{Keyword}
 use Rattle.camac_tokens.specs.declared.token.Sign.{Sign}
-use Rattle.camac_tokens.specs.declared.token.TokenKind.{TokenKind}
 use Rattle.camac_tokens.specs.declared.token.TokenKind.TheVariants as kind
 use Rattle.camac_tokens.specs.declared.fault.NameKind.{NameKind}
+use Rattle.camac_text_cursor.specs.Reading.{kind_of, spot_of, after_first, ◌>>◌, State, advance, give, Fault, missed, past, unexpected, Reader, ◌>>=◌, until}
 use Rattle.camac_text_cursor.specs.Names.{place_of, lam_place, table_place, procedure_place}
 use Rattle.camac_text_cursor.specs.declared.choice.Choice.{Choice}
 use Rattle.camac_text_cursor.specs.declared.choice.Choice.TheVariants as choice
-use Rattle.camac_text_cursor.specs.Reading.{◌>>◌, State, advance, kind_of, spot_of, give, Fault, missed, past, unexpected}
 use Rattle.camac_text_cursor.specs.Readers.{is_keyword, is_sign, expect, expect_sign, number_here, branch_number, used, used_register, used_variable, used_lam, used_table, variable_here, procedure_here, callable_by, called}
 use Rattle.camac_text_cursor.specs.Declaring.{tree_so_far}
-use Rattle.camac_text_cursor.proofs.Steps.{then_ok, ok_is, err_no_ok}
+use Rattle.camac_text_cursor.proofs.Steps.{then_ok, ok_is, err_no_ok, until_keeps}
 use Rattle.camac_text_cursor.proofs.Uses.{used_ok, known_ok}
 use Rattle.camac_text_cursor.proofs.Moves.{TakesOne, check_ok, number_ok}
-use Rattle.camac_text_spelling.specs.Pieces.{Piece, piece, first_piece, text_at, name_at, Names, Prefix}
-use Rattle.camac_text_spelling.proofs.Prefixes.{prefix_join, prefix_token, prefix_begin}
+use Rattle.camac_text_cursor.proofs.Searches.{position_from-map}
+use Rattle.camac_text_spelling.specs.Pieces.{Piece, piece, first_piece, Prefix, text_at, name_at, Names, others, separated}
+use Rattle.camac_lang.specs.declared.spot.Spot.{Spot}
+use Rattle.camac_lang.specs.Expressions.{Callable}
+use Rattle.camac_lang.specs.Tree.{Text, Table, Lam, Procedure}
+use denote.Enum.Bare.{same_true}
+
+-- Tokens that begin with the pieces of a spelling.
+
+pub prefix_join : (ts : List Token) (ps : List Piece) (us : List Token) (qs : List Piece) (vs : List Token) → Prefix ts ps us → Prefix us qs vs → Prefix ts (ps ++ qs) vs
+prefix_join ts [] us qs vs f g = subst (λ (ws : List Token). Prefix ws qs vs) (sym f) g
+prefix_join [] (p ∷ ps) us qs vs f g = absurd f
+prefix_join (t ∷ ts) (p ∷ ps) us qs vs f g = (f.0, prefix_join ts ps us qs vs f.1 g)
+
+pub prefix_split : (ts : List Token) (ps qs : List Piece) (vs : List Token) → Prefix ts (ps ++ qs) vs → (us : List Token) × Prefix ts ps us × Prefix us qs vs
+prefix_split ts [] qs vs f = (ts, refl, f)
+prefix_split [] (p ∷ ps) qs vs f = absurd f
+prefix_split (t ∷ ts) (p ∷ ps) qs vs f = let h = prefix_split ts ps qs vs f.1 in (h.0, (f.0, h.1), h.2)
+
+-- one token of this kind
+pub prefix_token : (ts : List Token) (k : TokenKind) → kind_of ts ≡ Some k → Prefix ts (piece k ∷ []) (after_first ts)
+prefix_token [] k e = absurd cc
+prefix_token (t ∷ ts) k e = ((cc, tt), refl)
+
+-- and its spot
+pub prefix_begin : (ts : List Token) (end_line : ℕ) (k : TokenKind) → kind_of ts ≡ Some k → Prefix ts (first_piece (spot_of ts end_line) k ∷ []) (after_first ts)
+prefix_begin [] end_line k e = absurd cc
+prefix_begin (t ∷ ts) end_line k e = ((cc, refl), refl)
+
+pub prefix_first : (ts : List Token) (p : Piece) (ps : List Piece) (rest : List Token) → Prefix ts (p ∷ ps) rest → (kind_of ts ≡ Some p.kind) × Prefix (after_first ts) ps rest
+prefix_first [] p ps rest f = absurd f
+prefix_first (t ∷ ts) p ps rest f = (ap Some f.0.0, f.1)
+
+-- a token whose spot the tree holds
+pub prefix_spot : (ts : List Token) (end_line : ℕ) (spot : Spot) (k : TokenKind) (ps : List Piece) (rest : List Token) → Prefix ts (first_piece spot k ∷ ps) rest → (kind_of ts ≡ Some k) × (spot_of ts end_line ≡ spot) × Prefix (after_first ts) ps rest
+prefix_spot [] end_line spot k ps rest f = absurd f
+prefix_spot (t ∷ ts) end_line spot k ps rest f = (ap Some f.0.0, f.0.1, f.1)
+
+-- Which pieces the tokens between two states are, and what readers of single tokens take.
 
 -- These are the names of what is declared so far.
 pub record Knows (n : Names) (vs rs : List Text) (ls : List Lam) (gs : List Table) (ps : List Procedure) : Type 0 where
@@ -174,3 +213,82 @@ unfolding called
 took_called {n} room place s t y here e =
     let one : Took n s (piece (kind.Name here.name) ∷ []) y.1 = took_one here.next (callable_moves room (slice_get s.callables place) s y e) in
     named (text_at n.procedures place) (λ k. here.same (one.tells k)) one
+
+-- Lists of phrases with separators, and what a loop reads of them.
+
+pub others_push : {A : Type 0} (sep : Piece) (f : A → List Piece) (xs : List A) (x : A) → others sep f (xs ++ x ∷ []) ≡ others sep f xs ++ sep ∷ f x
+others_push sep f [] x = ap (λ (w : List Piece). sep ∷ w) (append-nil (f x))
+others_push sep f (y ∷ ys) x =
+    ap (λ (w : List Piece). sep ∷ (f y ++ w)) (others_push sep f ys x) ∙ ap (λ (w : List Piece). sep ∷ w) (sym (append_assoc (f y) (others sep f ys) (sep ∷ f x)))
+
+pub separated_push : {A : Type 0} (sep : Piece) (f : A → List Piece) (first : A) (xs : List A) (x : A) → separated sep f (first ∷ (xs ++ x ∷ [])) ≡ separated sep f (first ∷ xs) ++ sep ∷ f x
+separated_push sep f first xs x =
+    ap (λ (w : List Piece). f first ++ w) (others_push sep f xs x) ∙ sym (append_assoc (f first) (others sep f xs) (sep ∷ f x))
+
+-- a list that begins with this one, and is spelled so
+pub record Listed {A : Type 0} (n : Names) (s : State) (sep : Piece) (f : A → List Piece) (first : A) (xs : List A) (u : State) : Type 0 where
+  pub tail : List A
+  pub same : xs ≡ first ∷ tail
+  pub took : Took n s (separated sep f (first ∷ tail)) u
+
+longer : {A : Type 0} (n : Names) (s : State) (sep : Piece) (f : A → List Piece) (first : A) (xs : List A) (u : State) (x : A) (v : State) → Listed n s sep f first xs u → Took n u (sep ∷ f x) v → Listed n s sep f first (xs ++ x ∷ []) v
+longer n s sep f first xs u x v l one = record {
+  tail = l.tail ++ x ∷ [];
+  same = ap (λ (w : List _). w ++ x ∷ []) l.same;
+  took = subst (λ (ps : List Piece). Took n s ps v) (sym (separated_push sep f first l.tail x)) (join l.took one);
+}
+
+pub took_list : {A : Type 0} (c : Choice) (n : Names) (sep : Piece) (f : A → List Piece) (goes_on : Option TokenKind → Bool) (read : List A → Reader A) → ((xs : List A) (u : State) (y : A × State) → goes_on (kind_of u.rest) ≡ true → read xs u ≡ Ok y → Took n u (sep ∷ f y.0) y.1) → (first : A) (s t : State) → Took n s (f first) t → (y : List A × State) → until c goes_on (λ xs. read xs >>= λ x. give (xs ++ x ∷ [])) (first ∷ []) t ≡ Ok y → Listed n s sep f first y.0 y.1
+took_list {A} c n sep f goes_on read one first s t begins y e =
+    until_keeps (λ (xs : List A) (u : State). Listed n s sep f first xs u) c (λ xs u l. record { tail = l.tail; same = l.same; took = then_missed c l.took }) goes_on (λ xs. read xs >>= λ x. give (xs ++ x ∷ [])) (λ xs u ys v l on took.
+    let m = then_ok (read xs u) (λ x. give (xs ++ x ∷ [])) (ys, v) took in
+    subst (λ (p : List A × State). Listed n s sep f first p.0 p.1) (ok_is (xs ++ m.0.0 ∷ [], m.0.1) (ys, v) m.2) (longer n s sep f first xs u m.0.0 m.0.1 l (one xs u m.0 on m.1))) (first ∷ []) t y
+    (record { tail = []; same = refl; took = subst (λ (ps : List Piece). Took n s ps t) (sym (append-nil (f first))) begins }) e
+
+-- Where a name is found in a list.
+
+-- what is found is found with more after it
+pub found_later : {A : Type 0} (test : A → Bool) (i p : ℕ) (xs ys : List A) → position_from test i xs ≡ Some p → position_from test i (xs ++ ys) ≡ Some p
+found_later test i p [] ys e = absurd cc
+found_later test i p (x ∷ xs) ys e = later (test x) i p _ _ e (λ h. found_later test (i + 1) p xs ys h) where
+  later : (b : Bool) (i p : ℕ) (short long : Option ℕ) → cond b (Some i) short ≡ Some p → (short ≡ Some p → long ≡ Some p) → cond b (Some i) long ≡ Some p
+  later true i p short long e more = e
+  later false i p short long e more = more e
+
+-- a new name is found at the end
+last_from : (x : Text) (i : ℕ) (xs : List Text) → position_from (bytes_eq x) i xs ≡ None → position_from (bytes_eq x) i (xs ++ x ∷ []) ≡ Some (i + length xs)
+last_from x i [] e =
+    ap (λ (b : Bool). cond b (Some i) None) ((bytes_eq-Decides x x).1 refl) ∙ ap (λ (k : ℕ). Some k) (omega arith)
+last_from x i (y ∷ ys) e = goes (bytes_eq x y) (λ h. last_from x (i + 1) ys h) e where
+  goes : (b : Bool) → (position_from (bytes_eq x) (i + 1) ys ≡ None → position_from (bytes_eq x) (i + 1) (ys ++ x ∷ []) ≡ Some ((i + 1) + length ys)) → cond b (Some i) (position_from (bytes_eq x) (i + 1) ys) ≡ None → cond b (Some i) (position_from (bytes_eq x) (i + 1) (ys ++ x ∷ [])) ≡ Some (i + suc (length ys))
+  goes true more h = absurd cc
+  goes false more h = more h ∙ ap (λ (k : ℕ). Some k) (omega arith)
+
+pub found_last : (x : Text) (xs : List Text) → place_of x xs ≡ None → place_of x (xs ++ x ∷ []) ≡ Some (length xs)
+found_last x xs e = last_from x 0 xs e ∙ ap (λ (k : ℕ). Some k) (omega arith)
+
+-- the name that is found stands there, whatever is after
+named_from : (x : Text) (i p : ℕ) (xs ys : List Text) → position_from (bytes_eq x) i xs ≡ Some p → (k : ℕ) × (p ≡ i + k) × (x ≡ text_at (xs ++ ys) k)
+named_from x i p [] ys e = absurd cc
+named_from x i p (z ∷ zs) ys e = goes (bytes_eq x z) refl (λ h. named_from x (i + 1) p zs ys h) e where
+  some_is : (a b : ℕ) → Some a ≡ Some b → a ≡ b
+  some_is a b h = cc
+
+  goes : (b : Bool) → bytes_eq x z ≡ b → (position_from (bytes_eq x) (i + 1) zs ≡ Some p → (k : ℕ) × (p ≡ (i + 1) + k) × (x ≡ text_at (zs ++ ys) k)) → cond b (Some i) (position_from (bytes_eq x) (i + 1) zs) ≡ Some p → (k : ℕ) × (p ≡ i + k) × (x ≡ text_at (z ∷ (zs ++ ys)) k)
+  goes true same more h = (0, (let here : i ≡ p = some_is i p h in omega arith), (bytes_eq-Decides x z).0 same)
+  goes false same more h = let m = more h in (suc m.0, (let at : p ≡ (i + 1) + m.0 = m.1 in omega arith), m.2)
+
+pub found_named : (x : Text) (p : ℕ) (xs ys : List Text) → place_of x xs ≡ Some p → x ≡ text_at (xs ++ ys) p
+found_named x p xs ys e =
+    let m = named_from x 0 p xs ys e in
+    let same : p ≡ m.0 = (let at : p ≡ 0 + m.0 = m.1 in omega arith) in
+    m.2 ∙ ap (λ (k : ℕ). text_at (xs ++ ys) k) (sym same)
+
+pub found_lam : (x : Text) (p : ℕ) (ls : List Lam) (ys : List Text) → lam_place x ls ≡ Some p → x ≡ text_at (map (λ (l : Lam). l.name) ls ++ ys) p
+found_lam x p ls ys e = found_named x p (map (λ (l : Lam). l.name) ls) ys (position_from-map (λ (l : Lam). l.name) (bytes_eq x) 0 ls ∙ e)
+
+pub found_table : (x : Text) (p : ℕ) (gs : List Table) (ys : List Text) → table_place x gs ≡ Some p → x ≡ text_at (map (λ (t : Table). t.name) gs ++ ys) p
+found_table x p gs ys e = found_named x p (map (λ (t : Table). t.name) gs) ys (position_from-map (λ (t : Table). t.name) (bytes_eq x) 0 gs ∙ e)
+
+pub found_procedure : (x : Text) (p : ℕ) (ps : List Procedure) (ys : List Text) → procedure_place x ps ≡ Some p → x ≡ text_at (map (λ (q : Procedure). q.name) ps ++ ys) p
+found_procedure x p ps ys e = found_named x p (map (λ (q : Procedure). q.name) ps) ys (position_from-map (λ (q : Procedure). q.name) (bytes_eq x) 0 ps ∙ e)

@@ -3,13 +3,13 @@
 ghost use Rattle.camac_text_spelling.specs.Laws.{ExampleIsSpelled, ReadIsSpelled, SpelledTokensAreRead, SpelledIsRead, SpelledOnce, FaultSpellsNothing, RefusedIsNotSpelled};
 
 /// The tokens of the standard example's text spell its tree.
-#[tactic(auto, using(crate::proofs::Rows::example_is_spelled))]
+#[tactic(auto, using(crate::proofs::SpelledScripts::example_is_spelled))]
 pub fn example_is_spelled()
     ensures { ExampleIsSpelled }
 {}
 
 /// The tree that is read of a text, which `parse` answers, is one that the text's tokens spell.
-#[tactic(auto, using(crate::proofs::Whole::read_is_spelled))]
+#[tactic(auto, using(crate::proofs::SpelledScripts::read_is_spelled))]
 pub fn read_is_spelled()
     ensures { ReadIsSpelled }
 {}

@@ -2,6 +2,5 @@ pub mod Acts
 pub mod Blocks
 pub mod LoopsRead
 pub mod TransfersRead
-pub mod StatementsRead
 pub mod Bodies
 pub mod LocalStatements

@@ -5,8 +5,7 @@ use Rattle.camac_lang.specs.View.{statement_of}
 use Rattle.camac_text_cursor.specs.Reading.{one_more, many}
 use Rattle.camac_text_statements.specs.Statements.{is_no_end, statement_with, block_at}
 use Rattle.camac_text_cursor.specs.Parser.{state}
-use Rattle.camac_text_statements.proofs.StatementsRead.{statement_ok}
-use Rattle.camac_text_statements.proofs.Bodies.{block_ok, statements_progress}
+use Rattle.camac_text_statements.proofs.Bodies.{statement_ok, block_ok, statements_progress}
 use Rattle.camac_text_cursor.proofs.Loops.{more, more_fails, ends}
 use Rattle.camac_text_statements.proofs.+statement.Goals as goal
 

@@ -3,8 +3,7 @@ use Rattle.std.specs.Int.Bits.{or_zero_r}
 use Rattle.std.proofs.lemmas.Nat.{or_lt}
 use Rattle.std.proofs.lemmas.List.{drop_all}
 use Rattle.camac_branch.specs.Crates.{branch_of}
-use Rattle.camac_branch.proofs.Kept.{or_assoc}
-use Rattle.camac_branch.proofs.Enabled.{enabled-next}
+use Rattle.camac_branch.proofs.Crates.{or_assoc, enabled-next}
 use Rattle.camac_branch.proofs.branch.enabled_bits.Goals as goal
 
 pub crates-preserved : goal.crates-preserved

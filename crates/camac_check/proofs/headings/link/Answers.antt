@@ -1,5 +1,5 @@
 use Rattle.std.proofs.Common.{◌∙◌, ap, slice_get}
-use Rattle.camac_check.proofs.Found.{link_accepts, link_refuses}
+use Rattle.camac_check.proofs.LeastFound.{link_accepts, link_refuses}
 use Rattle.camac_check.proofs.headings.link.Goals as goal
 
 pub returns-in-Some : goal.returns-in-Some

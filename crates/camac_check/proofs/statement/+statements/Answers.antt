@@ -24,10 +24,8 @@ use Rattle.camac_check_rows.specs.Weights.{inside_row, once}
 use Rattle.camac_check_rows.proofs.Kept.{arms_put, block_put, no_more, then_rows}
 use Rattle.camac_check_rows.proofs.Trees.{choose_else_is, each_tree, for_tree, next_of, while_tree}
 use Rattle.camac_check.specs.Ends.{each_judged, loop_end}
-use Rattle.camac_check.proofs.Blocks.{rest_rule, capped_twice, block_starts, block_goes_on, block_stops, block_ends}
-use Rattle.camac_check.proofs.EachTurns.{no_turns, rest_at, turn_goes_on, turn_stops, turns_begin, turns_end}
-use Rattle.camac_check.proofs.TurnRows.{each_is, each_rows, each_stops, known_next, times_few, turned_at, turns_go_on}
-use Rattle.camac_check.proofs.Rows.{choice_rows, end_is, for_is, for_rows, if_rows, lock_rows, loop_row_is, own_row_is, rows_next, while_is, while_rows}
+use Rattle.camac_check.proofs.Blocks.{rest_rule, capped_twice, block_starts, block_goes_on, block_stops, block_ends, no_turns, rest_at, turn_goes_on, turn_stops, turns_begin, turns_end}
+use Rattle.camac_check.proofs.Rows.{each_is, each_rows, each_stops, known_next, times_few, turned_at, turns_go_on, choice_rows, end_is, for_is, for_rows, if_rows, lock_rows, loop_row_is, own_row_is, rows_next, while_is, while_rows}
 use Rattle.camac_check.proofs.statement.+statements.Goals as goal
 
 pub accept_block-statements-init : goal.accept_block-statements-init

@@ -8,8 +8,7 @@ use Rattle.camac_rules.specs.Statements.{accept_block}
 use Rattle.camac_check_simple.specs.Gives.{by_code}
 use Rattle.camac_check_rows.specs.Rows.{block_rows, block_verdict, with_rows}
 use Rattle.camac_check_rows.specs.Turns.{turned, turns_over}
-use Rattle.camac_check.proofs.Blocks.{rest_rule}
-use Rattle.camac_check.proofs.EachTurns.{rest_turns}
+use Rattle.camac_check.proofs.Blocks.{rest_rule, rest_turns}
 use Rattle.camac_check.proofs.statement.+statements.Given as goal
 
 abbrev pub invariant-accept_block-statements : goal.invariant-accept_block-statements

@@ -12,8 +12,8 @@ use Rattle.camac_rules.specs.Statements.{accept_block}
 use Rattle.camac_check_simple.specs.Gives.{Fails, Gives, by_code}
 use Rattle.camac_check_costs.specs.Places.{at_turn, left_by, over_turns, place_in, place_in_block}
 use Rattle.camac_check_costs.specs.Stands.{place_found}
-use Rattle.camac_check_costs.proofs.Placed.{place_on, place_refused}
-use Rattle.camac_check_costs.proofs.TurnsTold.{first_and_rest, in_that_turn, left_is, no_turn, over_all, over_at, turn_ends, turn_fails, turn_told}
+use Rattle.camac_check_costs.proofs.PlaceLaws.{place_on, place_refused}
+use Rattle.camac_check_costs.proofs.PlaceTurns.{first_and_rest, in_that_turn, left_is, no_turn, over_all, over_at, turn_ends, turn_fails, turn_told}
 use Rattle.camac_check_costs.proofs.place.+places.Goals as goal
 
 pub place_in_block-returns-in_err-accept_next : goal.place_in_block-returns-in_err-accept_next

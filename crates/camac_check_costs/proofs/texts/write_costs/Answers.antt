@@ -3,7 +3,7 @@ use Rattle.std.proofs.Math.Bool.{or-false}
 use Rattle.camac_lines.proofs.Lines.{under_way_next, under_way_stops, Writes-at_err}
 use Rattle.camac_lines.proofs.Texts.{flat_map-next, under_way_ends}
 use Rattle.camac_check_costs.specs.Texts.{body_text}
-use Rattle.camac_check_costs.proofs.Left.{none_left}
+use Rattle.camac_check_costs.proofs.Whole.{none_left}
 use Rattle.camac_check_costs.proofs.texts.write_costs.Goals as goal
 
 pub returns-in_err-write_body-clause-text : goal.returns-in_err-write_body-clause-text

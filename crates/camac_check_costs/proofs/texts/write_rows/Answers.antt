@@ -4,7 +4,7 @@ use Rattle.camac_lang.specs.View.{procedure_of}
 use Rattle.camac_lines.proofs.Lines.{under_way_next, under_way_stops, Writes-at_err}
 use Rattle.camac_lines.proofs.Texts.{flat_map-next, under_way_ends}
 use Rattle.camac_check_costs.specs.Texts.{row_text}
-use Rattle.camac_check_costs.proofs.Left.{none_left}
+use Rattle.camac_check_costs.proofs.Whole.{none_left}
 use Rattle.camac_check_costs.proofs.texts.write_rows.Goals as goal
 
 pub returns-in_err-write_row-clause-text : goal.returns-in_err-write_row-clause-text

@@ -4,7 +4,7 @@ use Rattle.camac_range.specs.Interval.{only}
 use Rattle.camac_rules.specs.Known.{with_range}
 use Rattle.camac_rules.specs.Statements.{accept_block}
 use Rattle.camac_check_simple.specs.Gives.{by_code, verdict_of}
-use Rattle.camac_check_costs.proofs.TurnsTold.{never_passed, turn_passed}
+use Rattle.camac_check_costs.proofs.PlaceTurns.{never_passed, turn_passed}
 use Rattle.camac_check_costs.proofs.told.known_at_turn.Goals as goal
 
 pub turns-preserved : goal.turns-preserved

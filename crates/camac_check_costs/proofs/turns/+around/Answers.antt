@@ -1,5 +1,5 @@
 use Rattle.std.proofs.Common.{◌≡◌, ◌++◌, ◌<◌, ◌≤◌, OnOk, length, sym, ap, ◌∙◌, append-nil, arith, subst}
-use Rattle.camac_check_costs.proofs.Placed.{around_here, around_none}
+use Rattle.camac_check_costs.proofs.PlaceLaws.{around_here, around_none}
 use Rattle.camac_check_costs.proofs.turns.+around.Goals as goal
 
 pub push_each_around-returns-then-is_in : goal.push_each_around-returns-then-is_in

@@ -1,4 +1,4 @@
-use Rattle.camac_check_known.proofs.Stations.{declared_at}
+use Rattle.camac_check_known.proofs.Walks.{declared_at}
 use Rattle.camac_check_known.proofs.address.command_widths.Goals as goal
 
 pub returns-in-Some-clause-rule : goal.returns-in-Some-clause-rule

@@ -1,6 +1,6 @@
 use Rattle.std.proofs.Common.{◌<◌, ◌≤◌, ◌∙◌, length, arith}
 use Rattle.std.specs.Prelude.{max}
-use Rattle.camac_check_known.proofs.Joins.{hulls_grow, hulls_all}
+use Rattle.camac_check_known.proofs.Steps.{hulls_grow, hulls_all}
 use Rattle.camac_check_known.proofs.joined.hulls.Goals as goal
 
 pub places-preserved : goal.places-preserved

@@ -1,6 +1,6 @@
 use Rattle.std.proofs.Common.{◌<◌, ◌≤◌, ◌∙◌, length, arith}
 use Rattle.std.specs.Prelude.{min}
-use Rattle.camac_check_known.proofs.Joins.{join_grows, join_all}
+use Rattle.camac_check_known.proofs.Steps.{join_grows, join_all}
 use Rattle.camac_check_known.proofs.joined.join_registers.Goals as goal
 
 pub places-preserved : goal.places-preserved

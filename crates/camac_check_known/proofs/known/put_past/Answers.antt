@@ -1,6 +1,6 @@
 use Rattle.std.proofs.Common.{◌≡◌, ◌+◌, ◌-◌, ◌<◌, suc, length, arith}
 use Rattle.std.specs.Vec.{vec_len}
-use Rattle.camac_check_known.proofs.Lists.{write_filled}
+use Rattle.camac_check_known.proofs.Steps.{write_filled}
 use Rattle.camac_check_known.proofs.known.put_past.Goals as goal
 
 pub returns-clause-ok : goal.returns-clause-ok

@@ -1,11 +1,10 @@
 use Rattle.std.proofs.Common.{◌<◌, ◌+◌, ◌++◌, None, length, drop, sym, ap, ◌∙◌, append_assoc, arith}
 use Rattle.camac_lang.specs.View.{statement_of, statements_of}
 use Rattle.camac_check_simple.specs.Gives.{by_code}
-use Rattle.camac_check_rows.proofs.Trees.{next_of}
+use Rattle.camac_check_rows.proofs.Trees.{next_of, choose_else_is, each_tree}
 use Rattle.camac_check_rows.specs.Rows.{block_rows, inside}
 use Rattle.camac_rules.specs.Loops.{with_fixed}
-use Rattle.camac_check_rows.proofs.Passed.{none_choice, none_each, none_next}
-use Rattle.camac_check_rows.proofs.Trees.{choose_else_is, each_tree}
+use Rattle.camac_check_rows.proofs.Merged.{none_choice, none_each, none_next}
 use Rattle.camac_check_rows.proofs.unreached.+unreached.Goals as goal
 
 pub push_unreached-statements-preserved : goal.push_unreached-statements-preserved

@@ -1,5 +1,5 @@
 use Rattle.std.proofs.Common.{sym, ◌∙◌}
-use Rattle.camac_check_simple.proofs.Lams.{lam_there, no_lam, same_region}
+use Rattle.camac_check_simple.proofs.Steps.{lam_there, no_lam, same_region}
 use Rattle.camac_check_simple.proofs.calls.lam_region.Goals as goal
 
 pub returns-in-Some : goal.returns-in-Some

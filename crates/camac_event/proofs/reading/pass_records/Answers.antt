@@ -2,7 +2,7 @@ use Rattle.std.proofs.Common.{◌≡◌, ℕ, ◌+◌, ◌<◌, ◌++◌, ◌∷
 use Rattle.std.proofs.lemmas.Grind.{common_steps}
 use Rattle.std.proofs.lemmas.Result.{err_from_is_err_and}
 use Rattle.camac_event.specs.Reading.{record_at}
-use Rattle.camac_event.proofs.RecordLoop.{starts, goes_on, ends, is_done, shortens}
+use Rattle.camac_event.proofs.Loops.{records_start as starts, records_go_on as goes_on, records_end as ends, records_done as is_done, shortens}
 use Rattle.camac_event.proofs.reading.pass_records.Goals as goal
 
 pub loop-rest-init : goal.loop-rest-init

@@ -1,7 +1,7 @@
 use Rattle.std.proofs.Common.{◌≡◌, ◌+◌, ◌≤◌, List, length}
 use Rattle.camac_event.specs.Spelling.{Entry}
 use Rattle.camac_event.specs.Reading.{records_at}
-use Rattle.camac_event.proofs.RecordLoop.{IsReading}
+use Rattle.camac_event.proofs.Loops.{IsReading}
 use Rattle.camac_event.proofs.reading.pass_records.Given as goal
 
 abbrev pub invariant-loop-rest : goal.invariant-loop-rest

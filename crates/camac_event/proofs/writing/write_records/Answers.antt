@@ -1,5 +1,5 @@
 use Rattle.std.proofs.Common.{ap, ◌+◌}
-use Rattle.camac_event.proofs.Writes.{records_more}
+use Rattle.camac_event.proofs.Loops.{records_more}
 use Rattle.camac_event.proofs.writing.write_records.Goals as goal
 
 pub loop-event-preserved : goal.loop-event-preserved

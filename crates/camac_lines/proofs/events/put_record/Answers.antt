@@ -4,7 +4,7 @@ use Rattle.camac_word.specs.Watched.{inner_of}
 use Rattle.camac_word.specs.Writing.{AppendsPrefix}
 use Rattle.camac_lines.specs.Events.{event_start}
 use Rattle.camac_lines.specs.Texts.{Puts}
-use Rattle.camac_lines.proofs.EventLines.{event_line-laid}
+use Rattle.camac_lines.proofs.Lines.{event_line-laid}
 use Rattle.camac_lines.proofs.Texts.{Puts-at_err, Puts-then}
 use Rattle.camac_lines.proofs.events.put_record.Goals as goal
 

@@ -4,9 +4,8 @@ use Rattle.camac_event.specs.Spelling.{Entry}
 use Rattle.camac_event.specs.Found.{entry_in}
 use Rattle.camac_event.specs.Records.{Unread}
 use Rattle.camac_lines.specs.Events.{event_lines, last_line}
-use Rattle.camac_lines.proofs.Lines.{Writes-at_err}
+use Rattle.camac_lines.proofs.Lines.{Writes-at_err, event_lines-first}
 use Rattle.camac_lines.proofs.Texts.{under_way_last, under_way_put, under_way_put_stops}
-use Rattle.camac_lines.proofs.EventLines.{event_lines-first}
 use Rattle.camac_lines.proofs.events.write_event_file.Goals as goal
 
 pub returns-in_err-put_record-clause-text : goal.returns-in_err-put_record-clause-text

@@ -1,7 +1,6 @@
 use Rattle.std.proofs.Common.{◌∙◌, ◌<◌, length, map, sym, ap, refl, arith}
 use Rattle.std.proofs.Math.Bool.{or-false}
-use Rattle.camac_lines.proofs.HeadingLines.{headings_none, lam_has_none, next_is_procedure, next_is_service, procedure_lacks, service_lacks, table_has_none, under_way_begins, under_way_same, variables_have_none}
-use Rattle.camac_lines.proofs.Lines.{under_way_next, under_way_stops, Writes-at_err}
+use Rattle.camac_lines.proofs.Lines.{headings_none, lam_has_none, next_is_procedure, next_is_service, procedure_lacks, service_lacks, table_has_none, under_way_begins, under_way_same, variables_have_none, under_way_next, under_way_stops, Writes-at_err}
 use Rattle.camac_lines.proofs.Texts.{under_way_ends}
 use Rattle.camac_lines.specs.Headings.{headings_of, service_heading}
 use Rattle.camac_lines.specs.Verdict.{lam_name}

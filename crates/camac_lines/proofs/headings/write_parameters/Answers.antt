@@ -1,7 +1,6 @@
 use Rattle.std.proofs.Common.{◌∙◌, arith}
 use Rattle.std.proofs.Math.Bool.{or-false}
-use Rattle.camac_lines.proofs.HeadingLines.{parameters_next, parameters_none}
-use Rattle.camac_lines.proofs.Lines.{under_way_next, under_way_stops, Writes-at_err}
+use Rattle.camac_lines.proofs.Lines.{parameters_next, parameters_none, under_way_next, under_way_stops, Writes-at_err}
 use Rattle.camac_lines.proofs.Texts.{under_way_ends}
 use Rattle.camac_lines.proofs.headings.write_parameters.Goals as goal
 

@@ -1,4 +1,4 @@
-use Rattle.camac_response_times.proofs.Gathered.{taken_at_head}
+use Rattle.camac_response_times.proofs.Words.{taken_at_head}
 use Rattle.camac_response_times.proofs.search.+is_overloaded.Goals as goal
 
 pub returns-then-all-clause-all : goal.returns-then-all-clause-all

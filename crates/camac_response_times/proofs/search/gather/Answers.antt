@@ -3,7 +3,7 @@ use Rattle.std.specs.Option.{option_to_list}
 use Rattle.std.proofs.lemmas.List.{append-nil, drop_all}
 use Rattle.camac_response_times.specs.Found.{is_meant}
 use Rattle.camac_response_times.specs.Response.{called_within}
-use Rattle.camac_response_times.proofs.Gathered.{meant, next_is, not_meant, split}
+use Rattle.camac_response_times.proofs.Words.{meant, next_is, not_meant, split}
 use Rattle.camac_response_times.proofs.search.gather.Goals.{then-is_meant+in-Some, then-is_meant+in_default, else-is_meant}
 use Rattle.camac_response_times.proofs.search.gather.Goals as goal
 

@@ -1,5 +1,5 @@
 use Rattle.camac_response_times.specs.Found.{is_meant}
-use Rattle.camac_response_times.proofs.Gathered.{IsGathered}
+use Rattle.camac_response_times.proofs.Words.{IsGathered}
 use Rattle.camac_response_times.proofs.search.gather.Given as goal
 
 abbrev pub invariant-services : goal.invariant-services

@@ -1,6 +1,6 @@
 use Rattle.std.proofs.Common.{◌≡◌, ◌*◌, ◌/◌, ◌^◌, ◌≤◌, Some, true, ap, sym, ◌∙◌, rules, arith}
 use Rattle.camac_response_times.specs.Response.{is_up_to}
-use Rattle.camac_response_times.proofs.Gathered.{share_in_source}
+use Rattle.camac_response_times.proofs.Words.{share_in_source}
 use Rattle.camac_response_times.proofs.search.load_of.Goals as goal
 
 pub returns-in-Some-clause-takes : goal.returns-in-Some-clause-takes

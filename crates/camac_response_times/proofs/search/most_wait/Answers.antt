@@ -1,7 +1,7 @@
 use Rattle.std.proofs.Common.{◌∙◌, ◌+◌, ◌-◌, ◌*◌, false, ap, sym}
 use Rattle.camac_response_times.specs.Response.{calls_within}
 use Rattle.camac_response_times.specs.Rounds.{greatest_wait}
-use Rattle.camac_response_times.proofs.Answered.{gives_none, goes_on, laid_out}
+use Rattle.camac_response_times.proofs.Rates.{gives_none, goes_on, laid_out}
 use Rattle.camac_response_times.proofs.search.most_wait.Goals as goal
 
 pub returns-in_err-at : goal.returns-in_err-at

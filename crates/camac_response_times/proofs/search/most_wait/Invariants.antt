@@ -1,7 +1,7 @@
 use Rattle.std.proofs.Common.{◌+◌, ◌-◌}
 use Rattle.camac_response_times.specs.Response.{calls_within}
 use Rattle.camac_response_times.specs.Rounds.{greatest_wait}
-use Rattle.camac_response_times.proofs.Answered.{IsAt}
+use Rattle.camac_response_times.proofs.Rates.{IsAt}
 use Rattle.camac_response_times.proofs.search.most_wait.Given as goal
 
 abbrev pub invariant-loop-n : goal.invariant-loop-n

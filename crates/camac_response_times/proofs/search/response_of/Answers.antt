@@ -3,8 +3,8 @@ use Rattle.std.specs.Prelude.{option_map, option_and_then}
 use Rattle.std.proofs.lemmas.Option.{slice_get_read}
 use Rattle.camac_response_times.specs.Found.{answer, answer_with}
 use Rattle.camac_response_times.specs.Rounds.{most_rounds}
-use Rattle.camac_response_times.proofs.Answered.{no_stretch, no_stretch_found, by_stretch, fits, laid_out}
-use Rattle.camac_response_times.proofs.Gathered.{overloaded}
+use Rattle.camac_response_times.proofs.Rates.{no_stretch, no_stretch_found, by_stretch, fits, laid_out}
+use Rattle.camac_response_times.proofs.Words.{overloaded}
 use Rattle.camac_response_times.proofs.search.response_of.Goals as goal
 
 at_number : (c : goal.In_ok-start) → slice_get c.args.sources.now c.args.number ≡ Some c.in-Some.source.now

@@ -1,7 +1,7 @@
 use Rattle.std.proofs.Common.{◌+◌, ◌∙◌, arith}
 use Rattle.std.proofs.lemmas.Bool.{ne_eqb}
 use Rattle.camac_response_times.specs.Found.{gathered}
-use Rattle.camac_response_times.proofs.Answered.{round_on}
+use Rattle.camac_response_times.proofs.Rates.{round_on}
 use Rattle.camac_response_times.proofs.search.settle_from.Goals as goal
 
 pub loop-left-preserved : goal.loop-left-preserved

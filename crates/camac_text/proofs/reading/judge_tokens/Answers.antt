@@ -4,7 +4,7 @@ use Rattle.camac_tokens.specs.Left.{ahead_of}
 use Rattle.camac_text_cursor.specs.Parser.{state, Gives}
 use Rattle.camac_text.specs.Declarations.{declarations_at}
 use Rattle.camac_text.specs.Parser.{unread_in}
-use Rattle.camac_text.proofs.Judged.{read_whole}
+use Rattle.camac_text.proofs.Faults.{read_whole}
 use Rattle.camac_text.proofs.reading.judge_tokens.Goals as goal
 
 pub returns-in-Ok : goal.returns-in-Ok

@@ -7,7 +7,7 @@ use Rattle.camac_text_cursor.specs.Parser.{state, FailsWith, Gives}
 use Rattle.camac_text_cursor.specs.Reading.{State, Fault as Failure}
 use Rattle.camac_text.specs.Declarations.{declarations_at}
 use Rattle.camac_text.specs.Parser.{unread_in, start, judged, tree_in, tree_of_tokens}
-use Rattle.camac_text.proofs.Judged.{all_tokens}
+use Rattle.camac_text.proofs.Faults.{all_tokens, tree_untold, local_declarations}
 use Rattle.camac_text.proofs.WellFormed.{read_well_formed}
 use Rattle.camac_text.proofs.reading.parse_expecting.Goals as goal
 use Rattle.camac_tokens.specs.declared.fault.TextFault.TheVariants as text_fault
@@ -23,8 +23,6 @@ use Rattle.camac_text_cursor.specs.declared.choice.Choice.{Choice}
 use Rattle.camac_text_cursor.specs.Expected.{Admits}
 use Rattle.camac_text_cursor.proofs.Places.{noted_all, admits, left_at, Passes, Refuses}
 use Rattle.camac_text_cursor.proofs.Sets.{set_of, told_set, none_carried, admitted_in, in_admitted}
-use Rattle.camac_text.proofs.Faults.{tree_untold}
-use Rattle.camac_text.proofs.LocalDeclarations.{local_declarations}
 use Rattle.camac_lang.specs.declared.spot.Spot.{Spot}
 
 -- What is told of the place of a fault is exact.

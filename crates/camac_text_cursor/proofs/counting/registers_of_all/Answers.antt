@@ -1,7 +1,7 @@
 use Rattle.std.proofs.Common.{length, arith}
 use Rattle.camac_lang.specs.Tree.{Procedure}
 use Rattle.camac_lang.specs.View.{procedure_of}
-use Rattle.camac_text_cursor.proofs.Sums.{total_more}
+use Rattle.camac_text_cursor.proofs.Sets.{total_more}
 use Rattle.camac_text_cursor.proofs.counting.registers_of_all.Goals as goal
 
 pub loop-procedure-preserved : goal.loop-procedure-preserved

@@ -8,7 +8,7 @@ use Rattle.camac_text_cursor.specs.declared.choice.Choice.TheVariants as choice
 use Rattle.camac_text_cursor.specs.Reading.{until}
 use Rattle.camac_text_phrases.specs.Expressions.{counted, is_product_sign, is_sum_sign, bracketed, sum_turn, product_turn}
 use Rattle.camac_text_phrases.specs.Views.{Leaf, Puts}
-use Rattle.camac_text_phrases.proofs.NodesPut.{one_more, both, right_size}
+use Rattle.camac_text_phrases.proofs.ExpressionsRead.{one_more, both, right_size}
 use Rattle.camac_text_phrases.proofs.expressions.+expression.Goals as goal
 use Rattle.camac_text_phrases.proofs.expressions.+expression.Goals.{sum_turn-then-is_difference, sum_turn-else-is_difference}
 use Rattle.camac_lang.specs.Nodes.{expression_in, size}

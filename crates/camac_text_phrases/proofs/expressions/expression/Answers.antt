@@ -10,7 +10,7 @@ use Rattle.camac_text_cursor.proofs.Loops.{until_ends}
 use Rattle.camac_text_phrases.specs.Expressions.{bracketed, counted, expression_at, is_product_sign, is_sum_sign, product_turn, sum_turn}
 use Rattle.camac_text_phrases.specs.Views.{Tries}
 use Rattle.camac_text_phrases.proofs.BracketsRead.{product_progress, sum_progress, bracketed_ok}
-use Rattle.camac_text_phrases.proofs.ExpressionSteps.{is_read}
+use Rattle.camac_text_phrases.proofs.ExpressionsRead.{is_read}
 use Rattle.camac_text_phrases.proofs.expressions.expression.Goals as goal
 
 pub long_expression-requires : goal.long_expression-requires

@@ -5,7 +5,7 @@ use Rattle.camac_lang.specs.View.{expression_of}
 use Rattle.camac_lang.specs.declared.expression.Node.{Node}
 use Rattle.camac_lang.proofs.Terms.{expression_in-nodes_of, whole}
 use Rattle.camac_text_cursor.specs.Parser.{state}
-use Rattle.camac_text_phrases.proofs.ExpressionSteps.{factor_fails, is_read, leaf_stays, products_fail, sums_fail}
+use Rattle.camac_text_phrases.proofs.ExpressionsRead.{factor_fails, is_read, leaf_stays, products_fail, sums_fail}
 use Rattle.camac_text_phrases.proofs.expressions.long_expression.Goals as goal
 
 pub returns-in_err-operators : goal.returns-in_err-operators

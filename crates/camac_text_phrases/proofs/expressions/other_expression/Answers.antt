@@ -1,6 +1,6 @@
 use Rattle.std.proofs.lemmas.Result.{err_from_is_err_and}
 use Rattle.camac_text_cursor.specs.Parser.{state}
-use Rattle.camac_text_phrases.proofs.ExpressionSteps.{factor_fails}
+use Rattle.camac_text_phrases.proofs.ExpressionsRead.{factor_fails}
 use Rattle.camac_text_phrases.proofs.expressions.other_expression.Goals as goal
 
 pub returns-in_err-first : goal.returns-in_err-first

@@ -1,7 +1,7 @@
 use Rattle.std.proofs.Common.{rules, refl}
 use Rattle.camac_lang.specs.Nodes.{expression_in}
 use Rattle.camac_text_cursor.specs.Parser.{state}
-use Rattle.camac_text_phrases.proofs.ExpressionSteps.{number_taken, variable_taken}
+use Rattle.camac_text_phrases.proofs.ExpressionsRead.{number_taken, variable_taken}
 use Rattle.camac_text_phrases.proofs.expressions.quick_leaf.Goals as goal
 
 pub returns-in-Some-Number : goal.returns-in-Some-Number

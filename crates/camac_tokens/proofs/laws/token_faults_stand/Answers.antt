@@ -21,8 +21,7 @@ use Rattle.camac_tokens.specs.Scanning.{is_name_byte, is_blank, decimal_value, k
 use Rattle.camac_tokens.proofs.Scans.{size, added, line_feeds, feeds-cons, take_run, name_begins, sized_start, with_all, start_step, wrong_is}
 use Rattle.camac_tokens.specs.Cut.{begins, IsRun, IsWord, Piece, IsPiece, joined}
 use Rattle.camac_tokens.specs.Broken.{StandBefore, HasOtherByte, Breaks, TokenFaultsStand}
-use Rattle.camac_tokens.proofs.Cuts.{run_is, Stands, start_stands, kind_at, piece_of}
-use Rattle.camac_tokens.proofs.Uncut.{no_letter, digit_high, start_at, piece_starts, piece_step, good_for}
+use Rattle.camac_tokens.proofs.Uncut.{run_is, Stands, start_stands, kind_at, piece_of, no_letter, digit_high, start_at, piece_starts, piece_step, good_for}
 
 -- The token fault of a text is at the first place where no piece stands.
 

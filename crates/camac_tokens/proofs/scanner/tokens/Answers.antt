@@ -1,5 +1,4 @@
-use Rattle.camac_tokens.proofs.Cuts.{answer_cut}
-use Rattle.camac_tokens.proofs.Uncut.{answer_only}
+use Rattle.camac_tokens.proofs.Uncut.{answer_cut, answer_only}
 use Rattle.camac_tokens.proofs.scanner.tokens.Goals as goal
 
 pub returns-clause-cut : goal.returns-clause-cut

@@ -1,7 +1,7 @@
 use Rattle.std.proofs.Common.{◌<◌, sym, subst, List, length, rules}
 use Rattle.camac_branch.specs.Plan.{IsPlan, Layout}
 use Rattle.camac_branch.specs.declared.plan.Kind.{Kind}
-use Rattle.camac_branch.proofs.Plans.{is_plan-with_type}
+use Rattle.camac_branch.proofs.Builders.{is_plan-with_type}
 use Rattle.camac_branch.proofs.plan.Plan.add_type.Goals as goal
 use Rattle.camac_branch.proofs.plan.Plan.add_type.Goals.{in-Ok, in-Err}
 

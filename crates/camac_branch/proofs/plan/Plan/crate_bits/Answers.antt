@@ -1,5 +1,5 @@
 use Rattle.std.proofs.Common.{◌-◌, ◌<◌, length, get_or, ap, ◌∙◌, arith}
-use Rattle.camac_branch.proofs.Kept.{bits-read}
+use Rattle.camac_branch.proofs.Crates.{bits-read}
 use Rattle.camac_branch.proofs.plan.Plan.crate_bits.Goals as goal
 
 pub returns : goal.returns

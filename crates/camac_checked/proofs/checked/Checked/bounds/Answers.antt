@@ -2,7 +2,7 @@ use Rattle.std.proofs.Common.{◌≡◌, ◌<◌, length, refl, sym, subst, arit
 use Rattle.std.specs.Prelude.{slice_get}
 use Rattle.std.proofs.lemmas.Option.{slice_get_read}
 use Rattle.camac_checked.specs.Checked.{CheckedScript}
-use Rattle.camac_checked.proofs.Counted.{fine_count}
+use Rattle.camac_checked.proofs.Fitting.{fine_count}
 use Rattle.camac_checked.proofs.checked.Checked.bounds.Goals as goal
 
 pub index-requires : goal.index-requires

@@ -1,6 +1,6 @@
 use Rattle.std.proofs.Common.{◌≡◌, length, subst, arith}
 use Rattle.camac_checked.specs.Checked.{CheckedScript}
-use Rattle.camac_checked.proofs.Counted.{fine_count}
+use Rattle.camac_checked.proofs.Fitting.{fine_count}
 use Rattle.camac_checked.proofs.checked.Checked.services.Goals as goal
 
 pub returns-clause-services : goal.returns-clause-services

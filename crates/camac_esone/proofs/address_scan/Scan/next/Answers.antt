@@ -1,6 +1,6 @@
 use Rattle.std.proofs.Common.{rules, Some, None}
 use Rattle.camac_branch.specs.Address.{address}
-use Rattle.camac_esone.proofs.Standing.{leads_along_scan}
+use Rattle.camac_esone.proofs.InProgress.{leads_along_scan}
 use Rattle.camac_esone.proofs.address_scan.Scan.next.Goals as goal
 
 pub returns-then-is_by_last-clause-list : goal.returns-then-is_by_last-clause-list

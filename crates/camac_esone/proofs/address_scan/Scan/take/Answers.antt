@@ -1,5 +1,5 @@
 use Rattle.std.proofs.Common.{rules}
-use Rattle.camac_esone.proofs.Standing.{adds_cycle}
+use Rattle.camac_esone.proofs.InProgress.{adds_cycle}
 use Rattle.camac_esone.proofs.address_scan.Scan.take.Goals as goal
 
 pub returns-then-self-lt15-clause-stands : goal.returns-then-self-lt15-clause-stands

@@ -1,5 +1,5 @@
 use Rattle.std.proofs.Common.{rules, Some, None}
-use Rattle.camac_esone.proofs.Standing.{leads_along_q_repeat}
+use Rattle.camac_esone.proofs.InProgress.{leads_along_q_repeat}
 use Rattle.camac_esone.proofs.q_repeat.QRepeat.next.Goals as goal
 
 pub returns-then-self-gt0-2-clause-list : goal.returns-then-self-gt0-2-clause-list

@@ -1,5 +1,5 @@
 use Rattle.std.proofs.Common.{rules}
-use Rattle.camac_esone.proofs.Standing.{adds_cycle}
+use Rattle.camac_esone.proofs.InProgress.{adds_cycle}
 use Rattle.camac_esone.proofs.q_repeat.QRepeat.take.Goals as goal
 
 pub returns-then-q-clause-stands : goal.returns-then-q-clause-stands

@@ -1,5 +1,5 @@
 use Rattle.std.proofs.Common.{rules, Some, None}
-use Rattle.camac_esone.proofs.Standing.{leads_along_q_stop}
+use Rattle.camac_esone.proofs.InProgress.{leads_along_q_stop}
 use Rattle.camac_esone.proofs.q_stop.QStop.next.Goals as goal
 
 pub returns-then-self-gt0-clause-list : goal.returns-then-self-gt0-clause-list

@@ -2,7 +2,7 @@ use Rattle.std.proofs.Common.{◌≡◌, ◌<◌, ◌≤◌, ◌^◌, ◌-◌, [
 use Rattle.std.proofs.lemmas.List.{map_push}
 use Rattle.std.specs.List.{AllByRecursion}
 use Rattle.camac_event.specs.Spelling.{Listing, Entry, entries_of, HasUsage, UsageFits, IsEvent}
-use Rattle.camac_event.proofs.Writes.{AllByRecursion-push}
+use Rattle.camac_event.proofs.Loops.{AllByRecursion-push}
 use Rattle.camac_event.proofs.event.Events.append.Goals as goal
 
 pub invariant_of-self-2 : goal.invariant_of-self-2

@@ -1,7 +1,7 @@
 use Rattle.std.proofs.Common.{◌≡◌, ap}
 use Rattle.std.specs.List.{AllByRecursion}
 use Rattle.camac_event.specs.Spelling.{Listing, entries_of, IsEvent}
-use Rattle.camac_event.proofs.Writes.{found_fits}
+use Rattle.camac_event.proofs.Loops.{found_fits}
 use Rattle.camac_event.proofs.event.Events.get.Goals as goal
 
 pub returns-clause-fits : goal.returns-clause-fits

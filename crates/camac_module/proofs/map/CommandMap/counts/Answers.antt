@@ -1,6 +1,6 @@
 use Rattle.std.proofs.Common.{◌≤◌, ◌⊎◌, length, take, ◌∙◌, refl}
 use Rattle.std.proofs.lemmas.List.{take_all}
-use Rattle.camac_module.proofs.Sums.{commands-counted, probes-counted, min_enough}
+use Rattle.camac_module.proofs.Entries.{commands-counted, probes-counted, min_enough}
 use Rattle.camac_module.proofs.map.CommandMap.counts.Goals as goal
 
 pub returns : goal.returns

@@ -1,8 +1,7 @@
 use Rattle.std.proofs.Common.{◌<◌, length, subst, sym, map}
 use Rattle.camac_module.specs.Row.{entries_of}
 use Rattle.camac_module.specs.Commands.{IsCommandMap, DeclaresOne}
-use Rattle.camac_module.proofs.Rows.{map-entries_of-declared, declares_one}
-use Rattle.camac_module.proofs.Entries.{is_declarable, is_command_map-with_declared}
+use Rattle.camac_module.proofs.Entries.{map-entries_of-declared, declares_one, is_declarable, is_command_map-with_declared}
 use Rattle.camac_module.proofs.map.CommandMap.declare.Goals as goal
 
 pub invariant_of-self : goal.invariant_of-self

@@ -1,7 +1,6 @@
 use Rattle.std.proofs.Common.{subst, sym}
 use Rattle.camac_module.specs.Commands.{IsCommandMap}
-use Rattle.camac_module.proofs.Rows.{map-new}
-use Rattle.camac_module.proofs.Entries.{is_command_map-none_declared}
+use Rattle.camac_module.proofs.Entries.{map-new, is_command_map-none_declared}
 use Rattle.camac_module.proofs.map.CommandMap.new.Goals as goal
 
 pub invariant_of-result : goal.invariant_of-result

@@ -1,5 +1,5 @@
 use Rattle.std.proofs.Common.{refl, sym}
-use Rattle.camac_module.proofs.Rows.{get_or-entries_of}
+use Rattle.camac_module.proofs.Entries.{get_or-entries_of}
 use Rattle.camac_module.proofs.row.Row.entry.Goals as goal
 
 pub returns-then-is_declared : goal.returns-then-is_declared

@@ -1,35 +1,43 @@
--- Declarations that are read are spelled so, and the whole script.
-use Rattle.std.proofs.Common.{◌≡◌, ℕ, ◌+◌, nat_lt, List, [], ◌∷◌, ◌++◌, map, length, Option, Some, Ok, refl, sym, ap, subst, ◌∙◌, append_assoc, length-append}
+-- Declarations and whole scripts that are read are spelled so.
+use Rattle.std.proofs.Common.{◌≡◌, ℕ, ◌+◌, nat_lt, List, [], ◌∷◌, ◌++◌, map, length, Option, Some, Ok, refl, sym, ap, subst, ◌∙◌, append_assoc, length-append, zero, suc, ◌<◌, Bool, true, false, cond, Result, Err, arith}
 use Rattle.std.proofs.lemmas.List.{append-nil, map_push, map-append}
+use Rattle.std.specs.Prelude.{codes}
 use Rattle.camac_lang.specs.Tree.{Text, Table, Lam, Procedure, Service, next_variables, Script, on_line}
 use Rattle.camac_lang.specs.View.{block_of}
+use Rattle.camac_lang.specs.declared.spot.Spot.{Spot}
+use Rattle.camac_lang.specs.Scope.{is_well_formed}
 use Rattle.camac_tokens.specs.declared.token.Keyword.TheVariants as keyword
 use Rattle.camac_tokens.specs.declared.token.Sign.TheVariants as mark
 use Rattle.camac_tokens.specs.declared.token.Token.{Token}
 use Rattle.camac_tokens.specs.declared.token.TokenKind.{TokenKind}
 use Rattle.camac_tokens.specs.declared.token.TokenKind.TheVariants as kind
+use Rattle.camac_tokens.specs.Fault.{Fault}
+use Rattle.camac_tokens.specs.Scanning.{tokens_of, last_line, spot_at, start_of, tokens_from}
+use Rattle.camac_tokens.specs.Words.{keyword as keyword_of}
 use Rattle.camac_text_cursor.specs.declared.choice.Choice.TheVariants as choice
-use Rattle.camac_text_cursor.specs.Reading.{State, give, change, kind_of, spot_of, after_first, advance, Reader, ◌>>◌, past, until}
+use Rattle.camac_text_cursor.specs.Reading.{State, give, change, kind_of, spot_of, after_first, advance, Reader, ◌>>◌, past, until, ◌>>=◌, turns, while_next, Fault as Failure}
 use Rattle.camac_text_cursor.specs.Readers.{is_number, new_name, new_variable, is_name, expect, any_number, branch_number, sub_address_number, used_lam, expect_sign, number_here}
 use Rattle.camac_text_cursor.specs.Declaring.{with_lam as lam_added, with_variables_of, with_service as service_added, with_table as table_added, tree_so_far}
+use Rattle.camac_text_cursor.proofs.Steps.{then_ok, ok_is, err_no_ok, while_keeps, until_keeps, Progresses}
+use Rattle.camac_text_cursor.proofs.Moves.{check_ok, any_number_ok, sub_address_ok, new_name_ok, number_ok}
 use Rattle.camac_text_statements.specs.Statements.{block_at}
 use Rattle.camac_text.specs.Declarations.{lam_declaration, one_more_variable, variable_declaration, service_declaration, declaration_by, declaration_at, is_token, declarations_at}
 use Rattle.camac_text.specs.Tables.{word_after, one_more_word, table_words, table_declaration}
-use Rattle.camac_text.specs.Parser.{start}
-use Rattle.camac_text_cursor.proofs.Steps.{then_ok, ok_is, err_no_ok, while_keeps, until_keeps}
-use Rattle.camac_text_cursor.proofs.Moves.{check_ok, any_number_ok, sub_address_ok, new_name_ok, number_ok}
+use Rattle.camac_text.specs.Parser.{start, tree_in, tree_of_tokens, tree_after, script_of}
 use Rattle.camac_text.proofs.Variables.{DeclaresOne, new_variable_ok}
 use Rattle.camac_text.proofs.Extends.{Extends, itself}
+use Rattle.camac_text.proofs.Declares.{declarations_progress}
+use Rattle.camac_text.proofs.WellFormed.{read_well_formed}
 use Rattle.camac_text_spelling.specs.Pieces.{Piece, first_word, numeral, name, text_at, Prefix, Names}
 use Rattle.camac_text_spelling.specs.Declarations as spell
-use Rattle.camac_text_spelling.specs.Declarations.{service_names}
-use Rattle.camac_text_spelling.proofs.Prefixes.{prefix_join, prefix_token, prefix_begin}
-use Rattle.camac_text_spelling.proofs.Found.{found_named, found_lam, found_table, found_procedure}
-use Rattle.camac_text_spelling.proofs.Takes.{Tells, Took, join, returns, took_one, took_first, took_token, took_word, took_sign, took_branch, took_lam, then_missed}
-use Rattle.camac_text_spelling.proofs.SpelledProcedures.{procedure_spelled}
+use Rattle.camac_text_spelling.specs.Declarations.{service_names, script}
+use Rattle.camac_text_spelling.specs.Spells.{Spells, IsSpelled}
+use Rattle.camac_text_spelling.specs.Laws.{ReadIsSpelled, example_text, example_tree}
+use Rattle.camac_text_spelling.proofs.Takes.{prefix_join, prefix_token, prefix_begin, found_named, found_lam, found_table, found_procedure, Tells, Took, join, returns, took_one, took_first, took_token, took_word, took_sign, took_branch, took_lam, then_missed}
+use Rattle.camac_text_spelling.proofs.SpelledProcedures.{procedure_spelled, Declares, with_table, declares_table, with_lam, declares_lam, declares_variables, with_service, declares_service, Sofar, one_more}
 use Rattle.camac_text_spelling.proofs.SpelledStatements.{took_block}
-use Rattle.camac_text_spelling.proofs.Declared.{Declares, with_table, declares_table, with_lam, declares_lam, declares_variables, with_service, declares_service, Sofar, one_more}
-use Rattle.camac_lang.specs.declared.spot.Spot.{Spot}
+
+-- Declarations that are read are spelled so, and the whole script.
 
 -- ---- names
 
@@ -212,3 +220,93 @@ unfolding declarations_at
 declarations_spelled ts end_line y e =
     let so = while_keeps (λ (_ : Unit {0}) (u : State). Sofar ts (tree_so_far u) u.rest) is_token (λ _. declaration_at) (λ _ u x v so on took. one_more ts (tree_so_far u) u.rest (tree_so_far v) v.rest so (declaration_spelled u (x, v) took)) tt (start ts end_line) y (record { counted = refl; prefix = λ t x. refl }) e in
     so.prefix (tree_so_far y.1) (itself (tree_so_far y.1))
+
+-- What is read is spelled, at the whole text.
+
+-- a loop stops only where it does not go on
+turns_end : {A : Type 0} (goes_on : Option TokenKind → Bool) (turn : A → Reader A) → Progresses goes_on turn → (n : ℕ) (x : A) (s : State) (y : A × State) → length s.rest < n → turns n goes_on turn x s ≡ Ok y → goes_on (kind_of y.1.rest) ≡ false
+unfolding turns
+turns_end goes_on turn progress zero x s y few e = absurd (omega arith)
+turns_end {A} goes_on turn progress (suc n) x s y few e = apart (goes_on (kind_of s.rest)) refl (λ y' s' on took rest. let less : length s'.rest < length s.rest = progress x s y' s' on took in turns_end goes_on turn progress n y' s' y (omega arith) rest) e
+  where
+    apart : (b : Bool) → goes_on (kind_of s.rest) ≡ b → ((z : A) (s' : State) → goes_on (kind_of s.rest) ≡ true → turn x s ≡ Ok (z, s') → turns n goes_on turn z s' ≡ Ok y → goes_on (kind_of y.1.rest) ≡ false) → cond b (turn x >>= turns n goes_on turn) (give x) s ≡ Ok y → goes_on (kind_of y.1.rest) ≡ false
+    apart true on more h = let m = then_ok (turn x s) (turns n goes_on turn) y h in more m.0.0 m.0.1 on m.1 m.2
+    apart false off more h = subst (λ (p : A × State). goes_on (kind_of p.1.rest) ≡ false) (ok_is (x, s) y h) off
+
+no_token : (ts : List Token) → is_token (kind_of ts) ≡ false → ts ≡ []
+no_token [] e = refl
+no_token (t ∷ ts) e = absurd cc
+
+all_read : (s : State) (y : Unit {0} × State) → declarations_at s ≡ Ok y → y.1.rest ≡ []
+unfolding declarations_at while_next
+all_read s y e = no_token y.1.rest (turns_end is_token (λ _. declaration_at) declarations_progress (suc (length s.rest)) tt s y (omega arith) e)
+
+tree_is : (r : Result (Unit {0} × State) Failure) (tree : Script) → tree_in r ≡ Ok tree → (y : Unit {0} × State) × (r ≡ Ok y) × (tree_so_far y.1 ≡ tree)
+tree_is (Ok y) tree e = (y, refl, same (tree_so_far y.1) tree e) where
+  same : (a b : Script) → (let r : Result Script Fault = Ok a in r) ≡ Ok b → a ≡ b
+  same a b h = cc
+tree_is (Err d) tree e = absurd cc
+
+tokens_spelled : (text : List ℕ) (ts : List Token) (end_line : ℕ) (tree : Script) → tokens_of text ≡ Ok ts → tree_of_tokens ts end_line ≡ Ok tree → Spells ts tree
+unfolding tree_of_tokens
+tokens_spelled text ts end_line tree made e =
+    let r = tree_is (declarations_at (start ts end_line)) tree e in
+    subst (λ (w : Script). Spells ts w) r.2 (record {
+      all = subst (λ (rest : List Token). Prefix ts (script (tree_so_far r.0.1)) rest) (all_read (start ts end_line) r.0 r.1) (declarations_spelled ts end_line r.0 r.1);
+      stands = read_well_formed text ts end_line r.0 made r.1;
+    })
+
+after_spelled : (text : List ℕ) (made : Result (List Token) Fault) (end_line : ℕ) (tree : Script) → tokens_of text ≡ made → tree_after made end_line ≡ Ok tree → IsSpelled text tree
+after_spelled text (Ok ts) end_line tree made e = record { tokens = ts; made = made; spelled = tokens_spelled text ts end_line tree made e }
+after_spelled text (Err d) end_line tree made e = absurd cc
+
+pub read_is_spelled : ReadIsSpelled
+unfolding script_of
+read_is_spelled text tree e = after_spelled text (tokens_of text) (last_line text) tree refl e
+
+-- The standard example is spelled, by computation.
+
+abbrev at : ℕ → ℕ → TokenKind → Token
+at line left k = record { kind = k; spot = spot_at line left }
+
+abbrev example_tokens : List Token
+example_tokens =
+    at 1 106 (kind.Keyword keyword.Cdlam) ∷
+    at 1 100 (kind.Name (codes "adc")) ∷
+    at 1 96 (kind.Number 1) ∷
+    at 1 94 (kind.Number 1) ∷
+    at 1 92 (kind.Number 5) ∷
+    at 1 90 (kind.Number 12) ∷
+    at 2 87 (kind.Keyword keyword.Var) ∷
+    at 2 83 (kind.Name (codes "v")) ∷
+    at 3 81 (kind.Keyword keyword.Service) ∷
+    at 3 73 (kind.Name (codes "adc")) ∷
+    at 3 69 (kind.Keyword keyword.Within) ∷
+    at 3 62 (kind.Number 3) ∷
+    at 3 60 (kind.Keyword keyword.Cycles) ∷
+    at 3 53 (kind.Keyword keyword.Event) ∷
+    at 3 47 (kind.Number 1) ∷
+    at 3 45 (kind.Keyword keyword.Words) ∷
+    at 3 39 (kind.Sign mark.LeftBrace) ∷
+    at 4 37 (kind.Keyword keyword.Cdreg) ∷
+    at 4 31 (kind.Name (codes "r")) ∷
+    at 4 29 (kind.Number 1) ∷
+    at 4 27 (kind.Number 1) ∷
+    at 4 25 (kind.Number 5) ∷
+    at 4 23 (kind.Number 0) ∷
+    at 5 21 (kind.Keyword keyword.Cfsa) ∷
+    at 5 16 (kind.Number 0) ∷
+    at 5 14 (kind.Name (codes "r")) ∷
+    at 5 12 (kind.Sign mark.Into) ∷
+    at 5 9 (kind.Name (codes "v")) ∷
+    at 6 7 (kind.Keyword keyword.Put) ∷
+    at 6 3 (kind.Name (codes "v")) ∷
+    at 6 1 (kind.Sign mark.RightBrace) ∷ []
+
+pub example_is_spelled : IsSpelled example_text example_tree
+unfolding tokens_of tokens_from start_of keyword_of is_well_formed
+example_is_spelled = record {
+  tokens = example_tokens;
+  made = refl;
+  spelled = record { all = ((refl, refl), ((refl, tt), ((refl, tt), ((refl, tt), ((refl, tt), ((refl, tt), ((refl, refl), ((refl, tt), ((refl, refl), ((refl, tt), ((refl, tt), ((refl, tt), ((refl, tt), ((refl, tt), ((refl, tt), ((refl, tt), ((refl, tt), ((refl, refl), ((refl, tt), ((refl, tt), ((refl, tt), ((refl, tt), ((refl, tt), ((refl, refl), ((refl, tt), ((refl, tt), ((refl, tt), ((refl, tt), ((refl, refl), ((refl, tt), ((refl, tt), refl))))))))))))))))))))))))))))))); stands = refl };
+}
