@@ -58,6 +58,20 @@ service adc within 9 cycles event 0 words {
   cclc adc
 }
 """
+ARMS = """cdlam adc 1 1 5 12
+var v w
+service adc within 12 cycles event 3 words {
+  cdreg r 1 1 5 3
+  cfsa 0 r -> v
+  if v > 5 { if not q { put v } w = v } else { w = 4 }
+  v = 4
+  if v < 5 and not v == 3 { cfsa 0 r -> w } else { put v }
+  if q { cdreg r 1 1 5 4 }
+  cclc adc
+  if w == 4 { cfsa 0 r -> v }
+  put v
+}
+"""
 ARCHIVE_BYTES = 1_300_000
 NEEDED = {"malloc", "realloc", "free", "memcpy", "memmove", "memset"}
 ESONE = """
@@ -705,7 +719,7 @@ class Python(Case):
         session.close()
 
     def test_lists(self):
-        """What is ahead goes through `for` and `call` and ends before an `if`; its answers are taken up to an event."""
+        """What is ahead goes through `for`, `call` and `if`, and ends before what an answer decides; its answers are taken up to an event."""
         script = (EXAMPLES / "all_channels.script").read_bytes()
         with library.Session(self.sample(), script) as session:
             self.assertEqual([it.kind for it in session.ahead()], [library.DEMAND])
@@ -725,6 +739,9 @@ class Python(Case):
         with library.Session(self.sample(), CALLS) as session:
             session.next(DEMAND)
             self.assertEqual([(it.a, it.f) for it in session.ahead()], [(3, 0), (4, 0), (12, 10)])
+        with library.Session(self.sample(), ARMS) as session:
+            session.next(DEMAND)
+            self.assertEqual([(it.a, it.f) for it in session.ahead()], [(3, 0), (3, 0), (12, 10)])
 
     def left(self, session):
         """What is left of a block, and the words to write."""

@@ -3,24 +3,23 @@ use Rattle.std.proofs.Common.{◌≡◌, ◌∙◌, ℕ, zero, suc, ◌+◌, ◌
 use Rattle.std.proofs.lemmas.List.{take_all}
 use Rattle.std.specs.Borrow.{Bor}
 use Rattle.camac_branch.specs.Address.{Address}
-use Rattle.camac_branch.specs.Plan.{Layout}
 use Rattle.camac_checked.specs.Checked.{CheckedScript}
-use Rattle.camac_lang.specs.Tree.{Block, Procedure, Script}
+use Rattle.camac_lang.specs.Tree.{Block, Procedure}
 use Rattle.camac_lang.specs.View.{statements_of}
 use Rattle.camac_model.specs.Behaviour.{Action, then_do, ends}
 use Rattle.camac_model.specs.Fine.{most_turns}
 use Rattle.camac_model.specs.Meaning.{Context, context, block_meaning, for_turns}
 use Rattle.camac_model.proofs.Runs.{then_assoc}
-use Rattle.camac_machine.specs.MachineState.{bounds_of, context_in, left_in, open_of, opens_of, owner_of, registers_here, variables_here}
-use Rattle.camac_model.specs.State.{State, Variables}
-use Rattle.camac_machine.specs.Rest.{Owner, for_loop, nothing, returns, owed, rest_in}
+use Rattle.camac_machine.specs.MachineState.{bounds_of, context_in, left_in, open_of, opens_of, owner_of}
+use Rattle.camac_model.specs.State.{State}
+use Rattle.camac_machine.specs.Rest.{for_loop, nothing, returns, owed, rest_in}
 use Rattle.camac_machine.specs.Store.{held_at, registers_in, variables_in}
 use Rattle.camac_machine.specs.declared.machine.Frame.{Frame}
 use Rattle.camac_machine.specs.declared.machine.Machine.{Machine}
 use Rattle.camac_machine.specs.declared.scope.Scope.{Scope}
 use Rattle.camac_machine.proofs.Blocks.{then_ends}
 use Rattle.camac_machine.proofs.Frames.{left_pushed}
-use Rattle.camac_run.specs.Sure.{IsKnown, KnowsRegisters, KnowsVariables, After, context_before, context_of, LeadsTo, Adds, on}
+use Rattle.camac_run.specs.Sure.{IsKnown, KnowsRegisters, KnowsVariables, context_before, context_of, LeadsTo, Adds, on}
 use Rattle.camac_run.specs.declared.ahead.Inside.{Inside}
 use Rattle.camac_run.specs.declared.ahead.Known.{Known}
 use Rattle.camac_run.specs.declared.progress.Wanted.{Wanted}

@@ -15,6 +15,7 @@ pub mod Abandoned
 pub mod Coming
 pub mod Steps
 pub mod Making
+pub mod Arms
 pub mod Around
 pub mod Undone
 pub mod Transfers

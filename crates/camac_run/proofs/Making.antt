@@ -1,5 +1,5 @@
 -- What an action makes, and what actions one after the other make.
-use Rattle.std.proofs.Common.{append-nil, append_assoc, add-one, ◌-◌, ◌≡◌, ◌∙◌, ℕ, suc, zero, ◌+◌, ◌<◌, ◌≤◌, List, [], ◌∷◌, ◌++◌, length, drop, take, map, replicate, set, get_or, Bool, true, false, Option, Some, None, inl, inr, refl, sym, ap, subst, arith}
+use Rattle.std.proofs.Common.{append-nil, append_assoc, add-one, ◌-◌, ◌≡◌, ◌∙◌, ℕ, suc, zero, ◌+◌, ◌<◌, ◌≤◌, List, [], ◌∷◌, ◌++◌, length, drop, replicate, set, get_or, Bool, true, false, Option, Some, None, inl, inr, refl, sym, ap, subst, arith}
 use Rattle.std.proofs.Math.Path.{fun_ext}
 use Rattle.std.specs.Prelude.{IsSomeAnd, slice_get, slice_index_or, unwrap_or}
 use Rattle.std.proofs.lemmas.List.{drop_all, take-take}
@@ -15,16 +15,16 @@ use Rattle.camac_lang.specs.declared.tree.Stmt.{Stmt}
 use Rattle.camac_model.specs.Behaviour.{Behaviour, ends, stops, more, wrong, Action, then_do, given}
 use Rattle.camac_model.specs.Fine.{Bounds, IsFine, most_turns}
 use Rattle.camac_model.specs.Meaning.{Context, context, arguments, block_meaning, effect, enter, entered, returned, for_from, for_state, for_turns}
-use Rattle.camac_model.specs.State.{State, Registers, Variables, set_at, stepped, with_variable}
+use Rattle.camac_model.specs.State.{State, Registers, Variables, stepped, with_variable}
 use Rattle.camac_model.specs.Value.{value, values, value_and}
 use Rattle.camac_model.proofs.Runs.{then_assoc}
-use Rattle.camac_machine.specs.Rest.{Operation, awaited}
+use Rattle.camac_machine.specs.Rest.{awaited}
 use Rattle.camac_machine.proofs.Procedures.{before, routine_of, taken_at}
 use Rattle.camac_run.specs.Ahead.{AreAhead}
-use Rattle.camac_run.specs.Sure.{KnowsVariables, KnowsRegisters, HasValue, IsKnown, After, on, MakesCycle, PassesFrom, IsSure, context_before, LeadsTo, Leads, Goes, Adds}
+use Rattle.camac_run.specs.Sure.{KnowsVariables, KnowsRegisters, HasValue, IsKnown, on, MakesCycle, PassesFrom, IsSure, context_before, LeadsTo, Leads, Goes, Adds}
 use Rattle.camac_run.specs.declared.ahead.Known.{Known}
-use Rattle.camac_run.specs.declared.ahead.Sure.{Sure}
-use Rattle.camac_run.specs.declared.ahead.Sure.TheVariants as sure
+use Rattle.camac_run.specs.declared.sure.Sure.{Sure}
+use Rattle.camac_run.specs.declared.sure.Sure.TheVariants as sure
 use Rattle.camac_run.specs.declared.progress.Wanted.{Wanted}
 use Rattle.camac_run.specs.declared.progress.Wanted.TheVariants as wanted
 use Rattle.camac_run.proofs.Coming.{knows_set, operation_ahead}

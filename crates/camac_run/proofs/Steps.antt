@@ -23,8 +23,6 @@ use Rattle.camac_model.specs.State.{State, Variables, set_at, with_variable, wit
 use Rattle.camac_model.specs.Value.{value}
 use Rattle.camac_machine.specs.Rest.{makes, reads, awaited}
 use Rattle.camac_run.specs.Sure.{KnowsVariables, IsKnown, HasValue, on, MakesCycle, PassesFrom, NeedsNone, IsSure, sure_of}
-use Rattle.camac_run.specs.declared.ahead.Sure.{Sure}
-use Rattle.camac_run.specs.declared.ahead.Sure.TheVariants as sure
 use Rattle.camac_machine.specs.Store.{held_at}
 use Rattle.camac_machine.specs.declared.scope.Places.{Places}
 use Rattle.camac_machine.proofs.Procedures.{taken_at}

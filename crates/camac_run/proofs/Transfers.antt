@@ -1,5 +1,5 @@
 -- What is left of a transfer, and the run that makes it.
-use Rattle.std.proofs.Common.{◌≡◌, ◌∙◌, ℕ, ◌+◌, ◌-◌, ◌*◌, List, [], ◌∷◌, ◌++◌, Bool, true, false, Option, Some, None, refl, sym, ap, subst}
+use Rattle.std.proofs.Common.{◌≡◌, ◌∙◌, ℕ, ◌+◌, List, [], ◌∷◌, ◌++◌, Bool, true, false, Option, Some, None, refl, sym, ap, subst}
 use Rattle.std.proofs.Math.Path.{fun_ext}
 use Rattle.std.specs.Prelude.{IsSome, IfSome}
 use Rattle.camac_func.specs.declared.data.DataMove.{DataMove}
@@ -12,7 +12,7 @@ use Rattle.camac_branch.specs.declared.answer.Command.{Command}
 use Rattle.camac_branch.specs.declared.answer.Overrun.{Overrun}
 use Rattle.camac_esone.specs.InProgress.{QRepeatState, QStopState, ScanState, q_repeat_left, q_stop_left, scan_left}
 use Rattle.camac_esone.specs.Transfers.{NextAddress, q_repeat_next, q_stop_next, scan_next, tally, when}
-use Rattle.camac_model.specs.Behaviour.{Behaviour, does, ends, stops, overrun, short, Piece, cycled, event_left, Action, then_do, given}
+use Rattle.camac_model.specs.Behaviour.{Behaviour, does, ends, stops, short, cycled, event_left, Action, then_do, given}
 use Rattle.camac_model.specs.Cycle.{cycle, make_cycle, after_cycle}
 use Rattle.camac_model.specs.Fine.{Bounds, IsFine}
 use Rattle.camac_model.specs.Run.{event_of}
@@ -31,7 +31,7 @@ use Rattle.camac_machine.proofs.Takes.{cycle_goes, cycle_halts}
 use Rattle.camac_run.specs.Operation.{Begins, Waits, Wants}
 use Rattle.camac_run.specs.Runner.{RunnerState, rest, rest_from, with_event, last_words_in}
 use Rattle.camac_run.specs.Sound.{runner_state}
-use Rattle.camac_run.specs.Transfer.{AfterCycle, IsLeft, Leaves, MakesAfter, StandsIn, TransfersBegin, TransfersGoOn, command_if, cycle_after, next_in, q_of, window}
+use Rattle.camac_run.specs.Transfer.{AfterCycle, IsLeft, Leaves, MakesAfter, StandsIn, TransfersBegin, TransfersGoOn, command_if, cycle_after, next_in, window}
 use Rattle.camac_run.specs.declared.progress.Progress.TheVariants as progress
 use Rattle.camac_run.specs.declared.progress.Wanted.TheVariants as wanted
 use Rattle.camac_run.specs.declared.transfer.TransferLeft.{TransferLeft}

@@ -3,7 +3,7 @@ use Rattle.std.specs.Prelude.{◌≡◌, ℕ, ◌<◌, List, [], ◌∷◌, ◌+
 use Rattle.camac_lang.specs.Tree.{Script}
 use Rattle.camac_branch.specs.Branch.{Answer}
 use Rattle.camac_branch.specs.Plan.{Layout}
-use Rattle.camac_model.specs.Behaviour.{Behaviour, does, ends, stops, Piece, pieces, demanded, cycled, lock_taken, lock_released, event_left, Stop, short, overrun, more}
+use Rattle.camac_model.specs.Behaviour.{Behaviour, does, ends, stops, Piece, pieces, demanded, cycled, lock_taken, lock_released, event_left, Stop, short, overrun}
 use Rattle.camac_model.specs.Run.{the_run}
 use Rattle.camac_run.specs.Runner.{RunnerState, rest}
 use Rattle.camac_run.specs.declared.progress.Wanted.{Wanted}

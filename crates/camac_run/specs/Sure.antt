@@ -5,20 +5,20 @@ use Rattle.camac_branch.specs.Branch.{Answer}
 use Rattle.camac_branch.specs.Plan.{Layout}
 use Rattle.camac_branch.specs.declared.answer.Command.{Command}
 use Rattle.camac_checked.specs.Checked.{CheckedScript}
-use Rattle.camac_lang.specs.Tree.{Expression, Statement}
-use Rattle.camac_model.specs.Behaviour.{Behaviour, ends, stops, wrong, Action, then_do}
+use Rattle.camac_lang.specs.Tree.{Condition, Expression, Statement}
+use Rattle.camac_model.specs.Behaviour.{Behaviour, ends, stops, wrong, Action, decide, then_do}
 use Rattle.camac_model.specs.Fine.{Bounds, IsFine, most_turns}
 use Rattle.camac_model.specs.Meaning.{Context, context, effect}
 use Rattle.camac_model.specs.State.{State, Registers, Variables, set_at}
-use Rattle.camac_model.specs.Value.{value}
-use Rattle.camac_machine.specs.MachineState.{bounds_of, context_in, left_in, registers_here, variables_here}
+use Rattle.camac_model.specs.Value.{truth, value}
+use Rattle.camac_machine.specs.MachineState.{bounds_of, left_in, registers_here, variables_here}
 use Rattle.camac_machine.specs.Rest.{Operation, makes, reads, locks, transfers, pauses, awaited}
 use Rattle.camac_machine.specs.declared.machine.Machine.{Machine}
 use Rattle.camac_run.specs.Ahead.{AreAhead}
 use Rattle.camac_run.specs.declared.ahead.Inside.{Inside}
 use Rattle.camac_run.specs.declared.ahead.Known.{Known}
-use Rattle.camac_run.specs.declared.ahead.Sure.{Sure}
-use Rattle.camac_run.specs.declared.ahead.Sure.TheVariants as sure
+use Rattle.camac_run.specs.declared.sure.Sure.{Sure}
+use Rattle.camac_run.specs.declared.sure.Sure.TheVariants as sure
 use Rattle.camac_run.specs.declared.progress.Wanted.{Wanted}
 
 -- what is known of values by their numbers is so
@@ -38,6 +38,10 @@ pub record IsKnown (variables : List (Option ℕ)) (registers : List (Option Add
 -- the value of an expression, where the variables are known so
 abbrev pub HasValue : List (Option ℕ) → Expression → ℕ → Type 0
 HasValue known e n = (all : Variables) → KnowsVariables known all → value e all ≡ Some n
+
+-- whether a condition holds, whatever the flags are
+abbrev pub HasTruth : List (Option ℕ) → (Variables → (q x : Bool) → Option Bool) → Bool → Type 0
+HasTruth known holds b = (all : Variables) (q x : Bool) → KnowsVariables known all → holds all q x ≡ Some b
 
 -- the command of a single cycle
 abbrev pub cycle_of : Operation → Option Command
@@ -115,6 +119,14 @@ Goes plan go before made false after = (bounds : Bounds) (around : Action) → L
 -- operations that this makes are added to others
 abbrev pub Adds : Layout → Action → (before : Known) → (old : List Wanted) → (all : Bool) → (after : Known) → (new : List Wanted) → Type 0
 Adds plan go before old all after new = (made : List Wanted) × (new ≡ old ++ made) × Goes plan go before made all after
+
+-- `if`, by what its arms do
+abbrev pub chooses : Condition → Action → Action → Action
+chooses test first second s = decide (truth test s.variables s.q s.x) first second s
+
+-- all that is known then was known before
+abbrev pub KnowsLess : (before after : Known) → Type 0
+KnowsLess before after = (s : State) → IsKnown before.variables before.registers s → IsKnown after.variables after.registers s
 
 -- those that are ahead after what is waited for
 abbrev pub AddsFollowing : {V D C : ℕ} → Machine V D C → Operation → (old new : List Wanted) → Type 0

@@ -1,30 +1,23 @@
 // The cycles that surely follow the one that a service in progress waits for.
 
-ghost use Rattle.std.specs.Prelude.{◌≡◌, ◌+◌, ◌-◌, ◌<◌, ◌≤◌, ℕ, List, Option, None, IfSome, IsSome, IsSomeAnd, Some, true, false, map, replicate, set, slice_get, slice_index_or, []};
+ghost use Rattle.std.specs.Prelude.{◌≡◌, ◌+◌, ◌-◌, ◌<◌, ◌≤◌, ℕ, Option, None, IfSome, IsSome, IsSomeAnd, Some, true, false, map, replicate, slice_get, slice_index_or, []};
 ghost use Rattle.arrayvec.specs.ArrayVec.{array_vec_len};
-ghost use Rattle.camac_branch.specs.Address.{Address as At};
-ghost use Rattle.camac_esone.specs.Calls.{command_at};
-ghost use Rattle.camac_lang.specs.View.{call_of, crate_action_of, expression_of, for_of, lam_action_of, single_of, statement_of, statements_of};
+ghost use Rattle.camac_lang.specs.View.{call_of, condition_of, expression_of, for_of, statement_of, statements_of};
 ghost use Rattle.camac_machine.specs.MachineState.{context_in, opens_of, owner_in, pending_of};
 ghost use Rattle.camac_machine.specs.Rest.{owed, rest_in};
 ghost use Rattle.camac_machine.specs.Store.{held_at, registers_in, variables_in};
 ghost use Rattle.camac_model.specs.Fine.{most_turns};
-ghost use Rattle.camac_model.specs.Meaning.{Context, block_meaning, effect, fits_size, for_from, for_state, for_turns};
+ghost use Rattle.camac_model.specs.Meaning.{Context, block_meaning, effect, for_from, for_state, for_turns};
 ghost use Rattle.camac_model.specs.State.{Variables, stepped};
-ghost use Rattle.camac_run.specs.Sure.{KnowsVariables, KnowsRegisters, HasValue, After, cycle_of, MakesCycle, IsSure, sure_of, context_before, context_of, Adds, AddsFollowing};
+ghost use Rattle.camac_run.specs.Sure.{KnowsVariables, KnowsRegisters, KnowsLess, HasValue, After, cycle_of, chooses, context_of, Adds, AddsFollowing, Goes};
 
 use crate::progress::Wanted;
+use crate::sure::{Sure, known_of, note, truth_of, value_of};
 use arrayvec::ArrayVec;
-use camac_branch::Command;
 use camac_checked::Checked;
-use camac_esone::{Address, crate_call, lam_function};
-use camac_func::DataMove;
-use camac_lang::{
-    CrateAction, Expr, ForHead, Form, LamAction, Move, ProcedureCall, RegisterSetting,
-    SingleAction, Stmt, WordSize, limits,
-};
+use camac_esone::Address;
+use camac_lang::{Cond, Expr, ForHead, ProcedureCall, Stmt, limits};
 use camac_machine::{Frame, Machine, Owner, Pending, Places, Scope};
-use camac_word::{CrateNo, Function, Station, SubAddress, Word24};
 
 /// The most operations that are told ahead.
 pub const AHEAD: usize = 64;
@@ -34,16 +27,6 @@ const STEPS: u32 = 512;
 
 /// Operations that come next, whatever is answered.
 pub type Ahead = ArrayVec<Wanted, AHEAD>;
-
-/// What a statement that holds no other surely does.
-pub enum Sure {
-    /// It makes this cycle.
-    Makes(Command),
-    /// It needs no answer.
-    NeedsNone,
-    /// That is not known.
-    Unknown,
-}
 
 /// What is known of the variables and registers of a body.
 #[derive(Drop)]
@@ -196,15 +179,6 @@ fn see_registers(places: Places, all: &[Option<Address>], known: &mut [Option<Ad
     }
 }
 
-// Takes the value at a place, if there is such a place, as this one, or as not known.
-fn note<T: Copy>(known: &mut [Option<T>], place: usize, value: Option<T>)
-    ensures { known.new ≡ set known.old place value }
-{
-    if place < known.len() {
-        known[place] = value;
-    }
-}
-
 // Adds what the open blocks surely make, from the innermost on.
 fn add_open<const V: usize, const DEPTH: usize, const CAP: usize>(
     machine: &Machine<'_, V, DEPTH, CAP>,
@@ -299,6 +273,13 @@ fn add_statement(
             ..
         } => add_from(inside, *variable, *first, *last, body, known, coming),
         Stmt::Call(call) => add_call(inside, call, known, coming),
+        Stmt::If { test, then, .. } => add_if(inside, test, then, &[], known, coming),
+        Stmt::IfElse {
+            test,
+            then,
+            otherwise,
+            ..
+        } => add_if(inside, test, then, otherwise, known, coming),
         _ => add_simple(inside, statement, known, coming),
     }
 }
@@ -320,6 +301,77 @@ fn add_simple(inside: &Inside<'_>, statement: &Stmt, known: &mut Known, coming: 
         }
         Sure::NeedsNone => true,
         Sure::Unknown => false,
+    }
+}
+
+// `if`: the arm that is taken. If that is not known, none of both is to make an operation.
+#[cycle(walk)]
+fn add_if(
+    inside: &Inside<'_>,
+    test: &Cond,
+    then: &[Stmt],
+    otherwise: &[Stmt],
+    known: &mut Known,
+    coming: &mut Coming,
+) -> bool
+    ensures { Adds inside.now.checked.now.plan (chooses (condition_of test.now) (block_meaning (context_of inside.now) most_turns (statements_of then.now)) (block_meaning (context_of inside.now) most_turns (statements_of otherwise.now))) known.old coming.old.ahead.items result known.new coming.new.ahead.items }
+{
+    let Some(holds) = truth_of(test.parts.as_slice(), &known.variables) else {
+        return forget_block(then, known, coming) && forget_block(otherwise, known, coming);
+    };
+    if inside.depth == 0 {
+        return false;
+    }
+    let arm = inside.within(inside.procedures);
+    if holds {
+        add_block(&arm, then, known, coming)
+    } else {
+        add_block(&arm, otherwise, known, coming)
+    }
+}
+
+// Forgets what a block sets. Answers whether it makes no operation, by statements that hold no others but in an `if`.
+#[cycle(forget)]
+fn forget_block(block: &[Stmt], known: &mut Known, coming: &mut Coming) -> bool
+    ensures goes { (c : Context) → Goes c.plan (block_meaning c most_turns (statements_of block.now)) known.old [] result known.new }
+    ensures less { KnowsLess known.old known.new }
+    ensures none { coming.new ≡ record coming.old { steps = coming.new.steps } }
+{
+    'statements: for statement in block {
+        if !forget(statement, known, coming) {
+            return false;
+        }
+    }
+    true
+}
+
+// The same of a statement.
+#[cycle(forget)]
+fn forget(statement: &Stmt, known: &mut Known, coming: &mut Coming) -> bool
+    ensures goes { (c : Context) → Goes c.plan (λ s. effect c most_turns (statement_of statement.now) (stepped s)) known.old [] result known.new }
+    ensures less { KnowsLess known.old known.new }
+    ensures none { coming.new ≡ record coming.old { steps = coming.new.steps } }
+{
+    if !coming.step(1) {
+        return false;
+    }
+    match statement {
+        Stmt::Put(_) => true,
+        Stmt::Assign(assignment) => {
+            note(&mut known.variables, assignment.variable, None);
+            true
+        }
+        Stmt::SetRegister(setting) => {
+            note(&mut known.registers, setting.register, None);
+            true
+        }
+        Stmt::If { then, .. } => forget_block(then, known, coming),
+        Stmt::IfElse {
+            then,
+            otherwise,
+            ..
+        } => forget_block(then, known, coming) && forget_block(otherwise, known, coming),
+        _ => false,
     }
 }
 
@@ -442,154 +494,4 @@ fn pass(arguments: &[Expr], variables: &[Option<u32>], known: &mut [Option<u32>]
             None
         };
     }
-}
-
-// What a statement surely does. What is known is that before it, and then that after it.
-fn known_of(
-    checked: &Checked,
-    statement: &Stmt,
-    variables: &mut [Option<u32>],
-    registers: &mut [Option<Address>],
-) -> Sure
-    ensures { (i : ℕ) → IsSure (context_before checked.now i) variables.old registers.old (statement_of statement.now) result variables.new registers.new }
-{
-    match statement {
-        Stmt::Put(_) => Sure::NeedsNone,
-        Stmt::Assign(assignment) => {
-            let value = value_of(&assignment.value, variables);
-            note(variables, assignment.variable, value);
-            Sure::NeedsNone
-        }
-        Stmt::SetRegister(setting) => {
-            let at = address_of(setting, variables);
-            note(registers, setting.register, at);
-            Sure::NeedsNone
-        }
-        Stmt::Single(action) => made(single(action, variables, registers)),
-        Stmt::CrateCall(action) => made(call_of_crate(action, variables)),
-        Stmt::LamCall(action) => made(call_of_lam(checked, action)),
-        _ => Sure::Unknown,
-    }
-}
-
-// The cycle of a statement, if it is known.
-fn made(cycle: Option<Command>) -> Sure
-    ensures { result ≡ sure_of cycle }
-{
-    match cycle {
-        Some(command) => Sure::Makes(command),
-        None => Sure::Unknown,
-    }
-}
-
-// The value of an expression that is a literal or a variable, if it is known.
-fn value_of(e: &Expr, known: &[Option<u32>]) -> Option<u32>
-    ensures { IfSome result (HasValue known.now (expression_of e.now)) }
-{
-    match e.term().form() {
-        Form::Number(n) => Some(n),
-        Form::Variable(x) => at_place(known, x),
-        _ => None,
-    }
-}
-
-// What is known at a place.
-fn at_place<T: Copy>(known: &[Option<T>], place: usize) -> Option<T>
-    ensures { result ≡ slice_index_or known.now place None }
-{
-    if place < known.len() {
-        known[place]
-    } else {
-        None
-    }
-}
-
-// An address, if it is known.
-fn address_of(setting: &RegisterSetting, known: &[Option<u32>]) -> Option<Address>
-    ensures { IfSome result (λ at. HasValue known.now (expression_of setting.now.crate_no) at.crate_no × HasValue known.now (expression_of setting.now.station) at.station × HasValue known.now (expression_of setting.now.sub_address) at.sub_address) }
-{
-    Some(Address {
-        c: value_of(&setting.crate_no, known)?,
-        n: value_of(&setting.station, known)?,
-        a: value_of(&setting.sub_address, known)?,
-    })
-}
-
-// `cfsa`, `cssa`. What is read is not known.
-fn single(
-    action: &SingleAction,
-    variables: &mut [Option<u32>],
-    registers: &[Option<Address>],
-) -> Option<Command>
-    ensures { IfSome result (λ k. (c : Context) → MakesCycle c variables.old registers.now (single_of action.now) k variables.new) }
-{
-    let f = action.function;
-    let at = at_place(registers, action.register)?;
-    match &action.data {
-        Move::NoData => command_at(at, f, DataMove::None),
-        Move::Into(variable) => {
-            note(variables, *variable, None);
-            command_at(at, f, DataMove::In)
-        }
-        Move::From(value) => {
-            let word = word_of(action.size, value, variables)?;
-            command_at(at, f, DataMove::Out(word))
-        }
-    }
-}
-
-// The word of a write, if it is known.
-fn word_of(size: WordSize, e: &Expr, known: &[Option<u32>]) -> Option<Word24>
-    ensures { IfSome result (λ word. HasValue known.now (expression_of e.now) word × (fits_size size word ≡ true)) }
-{
-    let word = Word24::new(value_of(e, known)?)?;
-    match size {
-        WordSize::Full => Some(word),
-        WordSize::Short => {
-            if word.get() <= 65_535 {
-                Some(word)
-            } else {
-                None
-            }
-        }
-    }
-}
-
-// A call of a crate's controller.
-fn call_of_crate(action: &CrateAction, known: &[Option<u32>]) -> Option<Command>
-    ensures { IfSome result (λ k. (c : Context) (registers : List (Option At)) → MakesCycle c known.now registers (crate_action_of action.now) k known.now) }
-{
-    let c = CrateNo::new(value_of(&action.crate_no, known)?)?;
-    Some(crate_call(action.call, c))
-}
-
-// A call at a LAM's address.
-fn call_of_lam(checked: &Checked, action: &LamAction) -> Option<Command>
-    ensures { IfSome result (λ k. (known : List (Option ℕ)) (registers : List (Option At)) → (i : ℕ) → MakesCycle (context_before checked.now i) known registers (lam_action_of action.now) k known) }
-{
-    let lams = checked.script().lams();
-    if action.lam < lams.len() {
-        let lam = &lams[action.lam];
-        let at = Address {
-            c: lam.crate_no,
-            n: lam.station,
-            a: lam.sub_address.get(),
-        };
-        command_at(at, lam_function(action.call), DataMove::None)
-    } else {
-        None
-    }
-}
-
-// The command that moves this at an address, if there is such an address.
-fn command_at(at: Address, f: Function, mv: DataMove) -> Option<Command>
-    ensures { IfSome result (λ k. k ≡ command_at at f mv) }
-{
-    Some(Command {
-        c: CrateNo::new(at.c)?,
-        n: Station::new(at.n)?,
-        a: SubAddress::new(at.a)?,
-        f,
-        mv,
-    })
 }

@@ -12,6 +12,7 @@ mod place;
 mod progress;
 mod runner;
 mod service;
+mod sure;
 mod transfer;
 
 pub use ahead::{AHEAD, Ahead};

@@ -1,14 +1,15 @@
 use Rattle.std.proofs.Common.{◌≡◌, List, length, Some, map, refl, sym, ap, subst, ◌∙◌, arith}
 use Rattle.std.proofs.lemmas.List.{length-map}
 use Rattle.std.specs.Prelude.{slice_get}
-use Rattle.camac_lang.specs.Tree.{for_each}
-use Rattle.camac_lang.specs.View.{call_of, expression_of, for_of, keep_of, procedure_of, statement_of, statements_of}
+use Rattle.camac_lang.specs.Tree.{choose, choose_else, for_each}
+use Rattle.camac_lang.specs.View.{call_of, condition_of, expression_of, for_of, keep_of, procedure_of, statement_of, statements_of}
 use Rattle.camac_model.specs.Fine.{most_turns}
 use Rattle.camac_model.specs.Meaning.{block_meaning, effect, for_state}
 use Rattle.camac_model.specs.State.{stepped}
 use Rattle.camac_machine.proofs.Lams.{procedure_at}
-use Rattle.camac_machine.proofs.Trees.{call_is, each_is, for_is}
-use Rattle.camac_run.specs.Sure.{Adds, context_of}
+use Rattle.camac_machine.proofs.Trees.{call_is, choose_else_is, choose_is, each_is, for_is}
+use Rattle.camac_run.specs.Sure.{Adds, chooses, context_of}
+use Rattle.camac_run.proofs.Arms.{adds_first_arm, adds_goes, adds_second_arm, goes_either}
 use Rattle.camac_run.proofs.Making.{ArePassed, adds_call, adds_for, adds_in_turn, adds_no_turns, adds_turns, adds_unknown, its_step, block_ends, block_goes_on, block_stops, turns_end, turns_go_on, turns_stop}
 use Rattle.camac_run.specs.declared.ahead.Coming.{Coming}
 use Rattle.camac_run.specs.declared.ahead.Known.{Known}
@@ -138,3 +139,48 @@ pub add_statement-returns-in_default : goal.add_statement-returns-in_default
 add_statement-returns-in_default t c =
     let mid = ap (λ (m : Coming). m.ahead.items) c.step.ensures in
     its_step (context_of c.args.inside.now) (statement_of c.args.statement.now) c.args.known.now c.add_simple.new.known c.args.coming.now.ahead.items c.step.new.self.ahead.items c.add_simple.new.coming.ahead.items c.add_simple.result mid c.add_simple.ensures
+
+pub add_statement-returns-in-If : goal.add_statement-returns-in-If
+add_statement-returns-in-If t c =
+    let w = c.in-If in
+    let mid = ap (λ (m : Coming). m.ahead.items) c.step.ensures in
+    rw (w.is, choose_is w.spot w.test w.then)
+    (its_step (context_of c.args.inside.now) (choose w.spot (condition_of w.test) (statements_of w.then.items)) c.args.known.now c.add_if.new.known c.args.coming.now.ahead.items c.step.new.self.ahead.items c.add_if.new.coming.ahead.items c.add_if.result mid (rw c.deref-in-If.ensures.value at c.add_if.ensures))
+
+pub add_statement-returns-in-IfElse : goal.add_statement-returns-in-IfElse
+add_statement-returns-in-IfElse t c =
+    let w = c.in-IfElse in
+    let mid = ap (λ (m : Coming). m.ahead.items) c.step.ensures in
+    rw (w.is, choose_else_is w.spot w.test w.then w.otherwise)
+    (its_step (context_of c.args.inside.now) (choose_else w.spot (condition_of w.test) (statements_of w.then.items) (statements_of w.otherwise.items)) c.args.known.now c.add_if-in-IfElse.new.known c.args.coming.now.ahead.items c.step.new.self.ahead.items c.add_if-in-IfElse.new.coming.ahead.items c.add_if-in-IfElse.result mid (rw (c.deref-in-IfElse.ensures.value, c.deref-in-IfElse-2.ensures.value) at c.add_if-in-IfElse.ensures))
+
+pub add_if-returns-then-forget_block : goal.add_if-returns-then-forget_block
+add_if-returns-then-forget_block t c =
+    let x = context_of c.args.inside.now in
+    let first = block_meaning x most_turns (statements_of c.args.then.now) in
+    let second = block_meaning x most_turns (statements_of c.args.otherwise.now) in
+    let k = c.args.known.now in
+    let k1 = c.forget_block.new.known in
+    let its = c.forget_block-then-forget_block in
+    let none = ap (λ (m : Coming). m.ahead.items) (its.ensures.none ∙ ap (λ (m : Coming). record m { steps = its.new.coming.steps }) c.forget_block.ensures.none) in
+    adds_goes x.plan (chooses (condition_of c.args.test.now) first second) k its.new.known its.result c.args.coming.now.ahead.items its.new.coming.ahead.items none
+    (goes_either x.plan (condition_of c.args.test.now) first second k k1 its.new.known c.forget_block.ensures.less its.ensures.less (rw c.if-forget_block.true at (c.forget_block.ensures.goes x)) its.result (its.ensures.goes x))
+
+pub add_if-returns-then-inside-eq0 : goal.add_if-returns-then-inside-eq0
+add_if-returns-then-inside-eq0 t c =
+    let x = context_of c.args.inside.now in
+    adds_unknown x.plan c.args.known.now c.args.known.now (chooses (condition_of c.args.test.now) (block_meaning x most_turns (statements_of c.args.then.now)) (block_meaning x most_turns (statements_of c.args.otherwise.now))) c.args.coming.now.ahead.items c.args.coming.now.ahead.items refl
+
+pub add_if-returns-then-holds : goal.add_if-returns-then-holds
+add_if-returns-then-holds t c =
+    let x = context_of c.args.inside.now in
+    let truth_is = rw c.as_slice.ensures.value at c.in-Some.ensures in
+    adds_first_arm x.plan (condition_of c.args.test.now) (block_meaning x most_turns (statements_of c.args.then.now)) (block_meaning x most_turns (statements_of c.args.otherwise.now)) c.args.known.now c.add_block.new.known c.args.coming.now.ahead.items c.add_block.new.coming.ahead.items c.add_block.result c.in-Some.holds c.if-holds.true truth_is
+    (rw c.within-arm.ensures at c.add_block.ensures)
+
+pub add_if-returns-else-holds : goal.add_if-returns-else-holds
+add_if-returns-else-holds t c =
+    let x = context_of c.args.inside.now in
+    let truth_is = rw c.as_slice.ensures.value at c.in-Some.ensures in
+    adds_second_arm x.plan (condition_of c.args.test.now) (block_meaning x most_turns (statements_of c.args.then.now)) (block_meaning x most_turns (statements_of c.args.otherwise.now)) c.args.known.now c.add_block-else-holds.new.known c.args.coming.now.ahead.items c.add_block-else-holds.new.coming.ahead.items c.add_block-else-holds.result c.in-Some.holds c.if-holds.false truth_is
+    (rw c.within-arm.ensures at c.add_block-else-holds.ensures)

@@ -1,5 +1,4 @@
 use Rattle.std.proofs.Common.{List, subst}
-use Rattle.camac_branch.specs.Address.{Address}
 use Rattle.camac_model.specs.State.{Registers}
 use Rattle.camac_machine.specs.MachineState.{opens_of, context_in, variables_here}
 use Rattle.camac_machine.specs.Rest.{rest_in}

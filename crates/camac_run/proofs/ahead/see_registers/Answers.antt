@@ -1,6 +1,5 @@
-use Rattle.std.proofs.Common.{◌≡◌, ◌∙◌, get_or, length, None, Some, sym, ap, subst, arith}
+use Rattle.std.proofs.Common.{◌≡◌, get_or, None, Some, sym, subst, arith}
 use Rattle.std.specs.Prelude.{IfSome, slice_get}
-use Rattle.std.proofs.lemmas.Option.{get_or_from_slice_get}
 use Rattle.camac_branch.specs.Address.{Address}
 use Rattle.camac_machine.specs.Store.{held_at}
 use Rattle.camac_run.proofs.Steps.{filled, filled_on, register_held}

@@ -1,4 +1,4 @@
-use Rattle.std.proofs.Common.{◌≡◌, get_or, length, arith}
+use Rattle.std.proofs.Common.{◌≡◌, get_or, arith}
 use Rattle.std.proofs.lemmas.Option.{get_or_from_slice_get}
 use Rattle.camac_machine.specs.Store.{held_at}
 use Rattle.camac_run.proofs.Steps.{filled, filled_on, map_some}

@@ -1,4 +1,4 @@
-use Rattle.std.proofs.Common.{◌≡◌, ◌∷◌, ◌≤◌, [], List, Option, None, Some, sym, ap, ◌∙◌}
+use Rattle.std.proofs.Common.{◌≡◌, [], Option, None, Some, sym, ap, ◌∙◌}
 use Rattle.std.specs.Prelude.{IfNone}
 use Rattle.camac_run.specs.Waits.{WaitsDecide, is_made}
 use Rattle.camac_run.specs.declared.progress.Progress.TheVariants.{Went, Overrun}

@@ -1,7 +1,5 @@
 use Rattle.std.proofs.Common.{ℕ, ◌∙◌, refl, ap}
-use Rattle.camac_branch.specs.Address.{Address}
 use Rattle.camac_machine.specs.Course.{words_from, words_sent}
-use Rattle.camac_machine.specs.Rest.{address_of}
 use Rattle.camac_run.proofs.Transfers.{repeat_leaves}
 use Rattle.camac_run.proofs.transfer.repeat_left.Goals as goal
 

@@ -2,7 +2,7 @@ use Rattle.camac_lang.specs.View.{crate_action_of, expression_of, lam_action_of,
 use Rattle.camac_machine.proofs.Trees.{assign_is, crate_is, lam_is, put_is, register_is, single_is}
 use Rattle.camac_run.specs.Sure.{context_before}
 use Rattle.camac_run.proofs.Steps.{assign_needs_none, map_some, put_needs_none, register_needs_none, sure_is}
-use Rattle.camac_run.proofs.ahead.known_of.Goals as goal
+use Rattle.camac_run.proofs.sure.known_of.Goals as goal
 
 pub returns-in-Put : goal.returns-in-Put
 returns-in-Put c =

@@ -10,7 +10,7 @@ use Rattle.camac_machine.proofs.Lams.{lam_at}
 use Rattle.camac_model.specs.Meaning.{lam_address}
 use Rattle.camac_run.specs.Sure.{context_before}
 use Rattle.camac_run.proofs.Steps.{lam_makes, map_some}
-use Rattle.camac_run.proofs.ahead.call_of_lam.Goals as goal
+use Rattle.camac_run.proofs.sure.call_of_lam.Goals as goal
 
 pub returns-then-action-lams : goal.returns-then-action-lams
 returns-then-action-lams c =

@@ -2,7 +2,7 @@ use Rattle.std.proofs.Common.{subst, sym}
 use Rattle.camac_lang.specs.View.{expression_of}
 use Rattle.camac_run.specs.Sure.{HasValue}
 use Rattle.camac_run.proofs.Steps.{crate_makes}
-use Rattle.camac_run.proofs.ahead.call_of_crate.Goals as goal
+use Rattle.camac_run.proofs.sure.call_of_crate.Goals as goal
 
 pub returns : goal.returns
 returns c =

@@ -2,7 +2,7 @@ use Rattle.std.proofs.Common.{◌≡◌, ◌∙◌, None, Some, sym}
 use Rattle.std.specs.Prelude.{slice_index_or}
 use Rattle.camac_lang.specs.View.{expression_of}
 use Rattle.camac_run.proofs.Steps.{control_makes, map_some, read_makes, write_makes}
-use Rattle.camac_run.proofs.ahead.single.Goals as goal
+use Rattle.camac_run.proofs.sure.single.Goals as goal
 
 pub returns-in-NoData : goal.returns-in-NoData
 returns-in-NoData c =
