@@ -20,7 +20,7 @@ use Rattle.camac_engines.specs.declared.outcome.Outcome.{Outcome}
 use Rattle.camac_engines.specs.declared.judging.Judged.{Judged}
 use Rattle.camac_engines.specs.declared.response.Responded.{Responded}
 use Rattle.camac_tool.proofs.Runs.{ends_before}
-use Rattle.camac_tool.specs.Apart.{IsApartFrom}
+use Rattle.camac_tool.specs.Apart.{IsApartFrom, Words}
 use Rattle.camac_tool.specs.Devices.{HasBeginning, RunsOnDevices}
 use Rattle.camac_tool.specs.Gathered.{device_of, given_to, held_in}
 use Rattle.camac_tool.specs.Input.{IsJudgedIn}
@@ -111,9 +111,9 @@ module _ (Replied : (o given : Option (List ℕ)) → Result Done ToolFault → 
   faulted fault replied = (given, inl (subst (λ (x : Option (List ℕ)). Replied x given (Err fault)) same replied), (held, kept))
 
 -- before a run nothing is told
-pub not_begun : (bytes_of : Text → Option (List ℕ)) (finds : Text → Option FileId → Type 0) (plan script answers events : Text) (t : Telling) (o : Option (List ℕ)) (fault : ToolFault)
-    → HandsOn (RunsTold bytes_of finds plan script answers events t) o o (Err fault)
-not_begun bytes_of finds plan script answers events t o fault = (o, inl (inl (Keeps-refl o)), beginning o o (Keeps-refl o))
+pub not_begun : (bytes_of : Text → Option (List ℕ)) (finds : Text → Option FileId → Type 0) (w : Words) (t : Telling) (o : Option (List ℕ)) (fault : ToolFault)
+    → HandsOn (RunsTold bytes_of finds w t) o o (Err fault)
+not_begun bytes_of finds w t o fault = (o, inl (inl (Keeps-refl o)), beginning o o (Keeps-refl o))
 
 quiet : (o p : Option (List ℕ)) → Appends o p [] → Keeps o p
 quiet None p h = tt
@@ -130,14 +130,14 @@ settles Ends (Ok outcome) done (inr is) ends = rw is (inr (refl, (Ok (Answered o
 settles Ends (Err fault) done is ends = rw is (inl ends)
 
 -- a run in a world, and one on devices, of the words' inputs
-module _ (bytes_of : Text → Option (List ℕ)) (finds : Text → Option FileId → Type 0) (plan script answers events : Text) (apart : IsApartFrom finds plan script answers events)
-    {I : Type 0} (w : World I) (answered : Keeps (bytes_of answers) w.answers)
-    (judged : (w' : World I) (j : Judged) → HasJudged w.left w.plan w'.plan w.script w'.script j → IsJudgedIn bytes_of plan script j) where
+module _ (bytes_of : Text → Option (List ℕ)) (finds : Text → Option FileId → Type 0) (words : Words) (apart : IsApartFrom finds words)
+    {I : Type 0} (w : World I) (answered : Keeps (bytes_of words.answers) w.answers)
+    (judged : (w' : World I) (j : Judged) → HasJudged w.left w.plan w'.plan w.script w'.script j → IsJudgedIn bytes_of words.plan words.script j) where
   module _ (t : Telling) (same : w.gathers ≡ gathers t) where
     abbrev RunIsTold : (o p : Option (List ℕ)) → Result Done ToolFault → Type 0
-    RunIsTold = RunsTold bytes_of finds plan script answers events t
+    RunIsTold = RunsTold bytes_of finds words t
 
-    found_told : (w' : World I) (r : Result Outcome ToolFault) → RunsFound w w' t r → RunTells bytes_of finds plan script answers events t w.outputs.listing w'.outputs.listing r
+    found_told : (w' : World I) (r : Result Outcome ToolFault) → RunsFound w w' t r → RunTells bytes_of finds words t w.outputs.listing w'.outputs.listing r
     found_told w' r found = (
       apart,
       (
@@ -169,15 +169,15 @@ module _ (bytes_of : Text → Option (List ℕ)) (finds : Text → Option FileId
     run_settled w' r done h settled = settles (RunIsTold w.outputs.listing w'.outputs.listing) r done settled (run_told w' r h)
 
   pub run_handed : w.gathers ≡ true → (after : RunState → World I) (l e : Option (List ℕ)) (r : Result Outcome ToolFault) (done : Result Done ToolFault) → ((s : RunState) → (after s).outputs.listing ≡ s.listed)
-      → RunsOnDevices w after l e r → IsSettled r done → HandsOn (RunsTold bytes_of finds plan script answers events Listing) w.outputs.listing l done
+      → RunsOnDevices w after l e r → IsSettled r done → HandsOn (RunsTold bytes_of finds words Listing) w.outputs.listing l done
   run_handed same after l e r done is (ran, given, runs, handed) settled = by handed.2
     where
-      told : RunsTold bytes_of finds plan script answers events Listing w.outputs.listing given.listed (done_of ran)
-      told = subst (λ x. RunsTold bytes_of finds plan script answers events Listing w.outputs.listing x (done_of ran)) (is given) (run_told Listing same (after given) ran runs)
+      told : RunsTold bytes_of finds words Listing w.outputs.listing given.listed (done_of ran)
+      told = subst (λ x. RunsTold bytes_of finds words Listing w.outputs.listing x (done_of ran)) (is given) (run_told Listing same (after given) ran runs)
 
-      by : (((r ≡ ran) × Keeps given.listed l × Keeps given.recorded e) ⊎ (r ≡ Err Write)) → HandsOn (RunsTold bytes_of finds plan script answers events Listing) w.outputs.listing l done
+      by : (((r ≡ ran) × Keeps given.listed l × Keeps given.recorded e) ⊎ (r ≡ Err Write)) → HandsOn (RunsTold bytes_of finds words Listing) w.outputs.listing l done
       by (inl all) =
-          (given.listed, settles (RunsTold bytes_of finds plan script answers events Listing w.outputs.listing given.listed) ran done (subst (λ x. IsSettled x done) all.0 settled) told, is_got given.listed l done all.1)
+          (given.listed, settles (RunsTold bytes_of finds words Listing w.outputs.listing given.listed) ran done (subst (λ x. IsSettled x done) all.0 settled) told, is_got given.listed l done all.1)
       by (inr failed) = rw (subst (λ x. IsSettled x done) failed settled) (given.listed, inr (refl, (done_of ran, told)), handed.0)
 
 -- memory is out before a run

@@ -10,7 +10,7 @@ use Rattle.camac_engines.specs.declared.judging.Judged.{Judged}
 use Rattle.camac_engines.specs.declared.plan.PlanSource.{PlanSource}
 use Rattle.camac_engines.specs.declared.plan.PlanSource.TheVariants as source
 use Rattle.camac_engines.specs.declared.reading.TheConstants.{TEXT_LIMIT}
-use Rattle.camac_tool.specs.Apart.{Differs, IsApart, IsApartFrom, IsOther, Opens, OpensPlan, PlanDiffers, is_same, name_of}
+use Rattle.camac_tool.specs.Apart.{Differs, IsApart, IsApartFrom, IsOther, Opens, OpensPlan, PlanDiffers, Words, is_same, name_of}
 use Rattle.camac_tool.specs.Input.{IsFoundIn, IsInputOf, IsJudgedIn, IsPlanIn, IsSourceOf, IsTextOf, is_sample}
 use Rattle.camac_tool.specs.declared.host.FileId.{FileId}
 use Rattle.camac_word.specs.Watched.{inner_of}
@@ -65,11 +65,11 @@ module _ (finds : Text → Option FileId → Type 0) where
   plan_of reads plan None file sample other = inl sample
   plan_of reads plan (Some input) file opens other = inr (other_of (reads input) plan file opens other)
 
-  pub apart_from : {I : Type 0} (reads : I → FileId → Type 0) (plan script answers events : Text) (p : Option I) (s a : I) → OpensPlan finds reads plan p → Opens finds (reads s) script
-      → Opens finds (reads a) answers → IsApart finds events (λ file. PlanDiffers reads p file × Differs (reads s) file × Differs (reads a) file) → IsApartFrom finds plan script answers events
-  apart_from reads plan script answers events p s a of_plan of_script of_answers (inl none) = inl none
-  apart_from reads plan script answers events p s a of_plan of_script of_answers (inr (file, found, outputs, others)) =
-      inr (file, found, outputs, (plan_of reads plan p file of_plan others.0, other_of (reads s) script file of_script others.1, other_of (reads a) answers file of_answers others.2))
+  pub apart_from : {I : Type 0} (reads : I → FileId → Type 0) (w : Words) (p : Option I) (s a : I) → OpensPlan finds reads w.plan p → Opens finds (reads s) w.script → Opens finds (reads a) w.answers
+      → IsApart finds w.events (λ file. PlanDiffers reads p file × Differs (reads s) file × Differs (reads a) file) → IsApartFrom finds w
+  apart_from reads w p s a of_plan of_script of_answers (inl none) = inl none
+  apart_from reads w p s a of_plan of_script of_answers (inr (file, found, outputs, others)) =
+      inr (file, found, outputs, (plan_of reads w.plan p file of_plan others.0, other_of (reads s) w.script file of_script others.1, other_of (reads a) w.answers file of_answers others.2))
 
 -- what the system found or read is another file than this, where the two were compared
 pub other_was : {F : Type 0} (Is : FileId → Type 0) (file : FileId) (other : Result FileId F) → IsOkAnd other (λ o. is_same file o ≡ false) → IfOk other Is → Differs Is file

@@ -3,7 +3,7 @@ use Rattle.std.proofs.Common.{◌≡◌, ◌⊎◌, ℕ, Bool, true, false, Opti
 use Rattle.std.specs.Prelude.{IfSome, is_none}
 use Rattle.std.proofs.lemmas.Bool.{eq-eqb}
 use Rattle.clap.specs.Words.{Text}
-use Rattle.camac_tool.specs.Apart.{DiffersFromOutputs, IsApartFrom, IsOther, Opens, OpensPlan, is_same, name_of}
+use Rattle.camac_tool.specs.Apart.{DiffersFromOutputs, IsApartFrom, IsOther, Opens, OpensPlan, Words, is_same, name_of}
 use Rattle.camac_tool.specs.Input.{is_sample}
 use Rattle.camac_tool.specs.declared.host.FileId.{FileId}
 
@@ -40,27 +40,27 @@ module _ (has : Text → Option FileId → Bool) (one : (name : Text) (x y : Opt
   no_plan reads plan (Some i) file opens (inl sample) named = let wrong : true ≡ false = sym sample ∙ named in cc
   no_plan reads plan (Some i) file opens (inr other) named = no_read (reads i) plan file opens other
 
-  module _ (reads : ℕ → FileId → Bool) (plan script answers events : Text) (p : Option ℕ) (s a : ℕ) (file : FileId) (of_plan : OpensPlan Has (λ i f. reads i f ≡ true) plan p)
-      (of_script : Opens Has (λ f. reads s f ≡ true) script) (of_answers : Opens Has (λ f. reads a f ≡ true) answers) where
+  module _ (reads : ℕ → FileId → Bool) (w : Words) (p : Option ℕ) (s a : ℕ) (file : FileId) (of_plan : OpensPlan Has (λ i f. reads i f ≡ true) w.plan p)
+      (of_script : Opens Has (λ f. reads s f ≡ true) w.script) (of_answers : Opens Has (λ f. reads a f ≡ true) w.answers) where
     abbrev Others : FileId → Type 0
-    Others x = ((is_sample plan ≡ true) ⊎ IsOther Has (name_of plan) x) × IsOther Has (name_of script) x × IsOther Has (name_of answers) x
+    Others x = ((is_sample w.plan ≡ true) ⊎ IsOther Has (name_of w.plan) x) × IsOther Has (name_of w.script) x × IsOther Has (name_of w.answers) x
 
     abbrev IsNone : Type 0
     IsNone =
-        (is_sample plan ≡ false → IfSome p (λ i. reads i file ≡ false)) × (reads s file ≡ false) × (reads a file ≡ false) × (has (codes "/proc/self/fd/1") (Some file) ≡ false)
+        (is_sample w.plan ≡ false → IfSome p (λ i. reads i file ≡ false)) × (reads s file ≡ false) × (reads a file ≡ false) × (has (codes "/proc/self/fd/1") (Some file) ≡ false)
         × (has (codes "/proc/self/fd/2") (Some file) ≡ false)
 
     differ : DiffersFromOutputs Has file → Others file → IsNone
     differ outputs others = (
-      no_plan reads plan p file of_plan others.0,
-      no_read (reads s) script file of_script others.1,
-      no_read (reads a) answers file of_answers others.2,
+      no_plan reads w.plan p file of_plan others.0,
+      no_read (reads s) w.script file of_script others.1,
+      no_read (reads a) w.answers file of_answers others.2,
       no_name (codes "/proc/self/fd/1") file outputs.0,
       no_name (codes "/proc/self/fd/2") file outputs.1,
     )
 
-    pub none_is : IsApartFrom Has plan script answers events → has events (Some file) ≡ true → IsNone
-    none_is (inl none) is = let wrong : true ≡ false = ap (λ (o : Option FileId). is_none o) (one events None (Some file) none is) in cc
+    pub none_is : IsApartFrom Has w → has w.events (Some file) ≡ true → IsNone
+    none_is (inl none) is = let wrong : true ≡ false = ap (λ (o : Option FileId). is_none o) (one w.events None (Some file) none is) in cc
     none_is (inr (f, found, outputs, others)) is =
-        let equal : f ≡ file = one_of f file (one events (Some f) (Some file) found is) in
+        let equal : f ≡ file = one_of f file (one w.events (Some f) (Some file) found is) in
         differ (subst (DiffersFromOutputs Has) equal outputs) (subst Others equal others)

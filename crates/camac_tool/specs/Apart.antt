@@ -3,7 +3,26 @@ use Rattle.std.specs.Prelude.{◌≡◌, ◌⊎◌, ◌&&◌, Bool, true, false,
 use Rattle.std.specs.Str.{bytes_eq}
 use Rattle.clap.specs.Words.{Text}
 use Rattle.camac_tool.specs.Input.{is_sample}
+use Rattle.camac_tool.specs.declared.host.Earlier.{Earlier}
 use Rattle.camac_tool.specs.declared.host.FileId.{FileId}
+use Rattle.camac_tool.specs.declared.host.RunWords.{RunWords}
+
+-- the words of a run, and what becomes of an EVENTS that holds bytes
+pub record Words : Type 0 where
+  pub plan : Text
+  pub script : Text
+  pub answers : Text
+  pub events : Text
+  pub earlier : Earlier
+
+abbrev pub words_of : RunWords → Words
+words_of w = record {
+  plan = w.plan.now;
+  script = w.script.now;
+  answers = w.answers.now;
+  events = w.events.now;
+  earlier = w.earlier;
+}
 
 -- one file has one device and one number there
 abbrev pub is_same : FileId → FileId → Bool
@@ -48,6 +67,6 @@ module _ (finds : Text → Option FileId → Type 0) where
   IsApart events InputsDiffer = finds events None ⊎ ((file : FileId) × finds events (Some file) × DiffersFromOutputs file × InputsDiffer file)
 
   -- those of these words
-  abbrev pub IsApartFrom : (plan script answers events : Text) → Type 0
-  IsApartFrom plan script answers events =
-      IsApart events (λ file. ((is_sample plan ≡ true) ⊎ IsOther (name_of plan) file) × IsOther (name_of script) file × IsOther (name_of answers) file)
+  abbrev pub IsApartFrom : Words → Type 0
+  IsApartFrom w =
+      IsApart w.events (λ file. ((is_sample w.plan ≡ true) ⊎ IsOther (name_of w.plan) file) × IsOther (name_of w.script) file × IsOther (name_of w.answers) file)

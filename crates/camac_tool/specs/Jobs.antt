@@ -28,10 +28,11 @@ use Rattle.camac_engines.specs.declared.outcome.Outcome.{Outcome}
 use Rattle.camac_engines.specs.declared.reading.TheConstants.{EVENTS_LIMIT}
 use Rattle.camac_tool_words.specs.declared.words.Job.{Job}
 use Rattle.camac_tool_words.specs.declared.words.Job.TheVariants as job
-use Rattle.camac_tool.specs.Apart.{IsApartFrom}
+use Rattle.camac_tool.specs.Apart.{IsApartFrom, Words}
 use Rattle.camac_tool.specs.Devices.{HasBeginning}
 use Rattle.camac_tool.specs.Input.{IsFoundIn, IsJudgedIn, IsPlanOf, IsTextOf}
 use Rattle.camac_tool.specs.Run.{RunsJudged}
+use Rattle.camac_tool.specs.declared.host.Earlier.TheVariants.{Emptied, Refused}
 use Rattle.camac_tool.specs.declared.host.FileId.{FileId}
 use Rattle.camac_tool.specs.declared.program.Done.{Done}
 use Rattle.camac_tool.specs.declared.program.Done.TheVariants.{Answered, Misused, NoCode}
@@ -111,19 +112,19 @@ module _ (bytes_of : Text → Option (List ℕ)) where
   Replies (question.Response plan script every within) = Responds plan.now script.now (map (λ w. w.now) every.items) (map (λ w. w.now) within.items)
   Replies (question.Events file) = Tells (EventsTell file.now)
 
-  module _ (finds : Text → Option FileId → Type 0) (plan script answers events : Text) (telling : Telling) where
+  module _ (finds : Text → Option FileId → Type 0) (w : Words) (telling : Telling) where
     -- what was found of a plan and a script is run on these answers, with some event file, and EVENTS is none of the inputs
     abbrev pub RunTells : (o p : Option (List ℕ)) → Result Outcome ToolFault → Type 0
     RunTells o p r =
-        IsApartFrom finds plan script answers events × ((j : Judged) × IsJudgedIn bytes_of plan script j
-        × ((u v e f : Option (List ℕ)) × Keeps (bytes_of answers) u × RunsJudged (gathers telling) telling j u v (record { listing = o; events = e }) (record { listing = p; events = f }) r))
+        IsApartFrom finds w × ((j : Judged) × IsJudgedIn bytes_of w.plan w.script j
+        × ((u v e f : Option (List ℕ)) × Keeps (bytes_of w.answers) u × RunsJudged (gathers telling) telling j u v (record { listing = o; events = e }) (record { listing = p; events = f }) r))
 
     abbrev pub RunsTold : (o p : Option (List ℕ)) → Result Done ToolFault → Type 0
     RunsTold o p (Ok (Answered outcome)) = RunTells o p (Ok outcome)
     RunsTold o p (Ok _) = ⊥
     RunsTold o p (Err fault) = Keeps o p ⊎ RunTells o p (Err fault)
 
-  -- the answers of a live run are standard input
+  -- a live run has its answers from standard input, and empties no file that holds bytes
   abbrev pub DoesJob : (finds : Text → Option FileId → Type 0) → Job → (o p : Option (List ℕ)) → Result Done ToolFault → Type 0
   DoesJob finds (job.Plan plan) = HandsOn (Tells (PlanTells plan.now plan_ask.Lines))
   DoesJob finds (job.Commands plan) = HandsOn (Tells (PlanTells plan.now plan_ask.Commands))
@@ -139,5 +140,7 @@ module _ (bytes_of : Text → Option (List ℕ)) where
   DoesJob finds (job.Response plan script every within) =
       HandsOn (Responds plan.now script.now (map (λ w. w.now) every.items) (map (λ w. w.now) within.items))
   DoesJob finds (job.Events file) = HandsOn (Tells (EventsTell file.now))
-  DoesJob finds (job.Run plan script answers events) = HandsOn (RunsTold finds plan.now script.now answers.now events.now Listing)
-  DoesJob finds (job.Drive plan script events) = λ o p. OrWriteFault (RunsTold finds plan.now script.now (codes "@in") events.now Requests o p)
+  DoesJob finds (job.Run plan script answers events) =
+      HandsOn (RunsTold finds (record { plan = plan.now; script = script.now; answers = answers.now; events = events.now; earlier = Emptied }) Listing)
+  DoesJob finds (job.Drive plan script events) = λ o p. OrWriteFault
+      (RunsTold finds (record { plan = plan.now; script = script.now; answers = codes "@in"; events = events.now; earlier = Refused }) Requests o p)

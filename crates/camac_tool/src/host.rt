@@ -1,8 +1,8 @@
 // What the program wants of its system: the inputs that words name, and EVENTS.
 
-ghost use Rattle.std.specs.Prelude.{IfOk, List, ℕ, None, Option, Some, ⊤};
+ghost use Rattle.std.specs.Prelude.{◌≡◌, IfOk, List, ℕ, None, Option, Some, ⊤};
 ghost use Rattle.std.specs.Io.KnownBytes.{Keeps};
-ghost use Rattle.camac_tool.specs.Apart.{Opens};
+ghost use Rattle.camac_tool.specs.Apart.{IsApartFrom, Opens, words_of};
 ghost use Rattle.camac_tool.specs.declared.host.FileId.{FileId};
 
 use std::io;
@@ -20,6 +20,36 @@ pub struct FileId {
 pub enum Earlier {
     Emptied,
     Refused,
+}
+
+/// The words of a run, and what becomes of an EVENTS that holds bytes.
+#[derive(Drop)]
+pub struct RunWords<'a> {
+    pub plan: &'a str,
+    pub script: &'a str,
+    pub answers: &'a str,
+    pub events: &'a str,
+    pub earlier: Earlier,
+}
+
+impl<'a> RunWords<'a> {
+    pub fn new(
+        plan: &'a str,
+        script: &'a str,
+        answers: &'a str,
+        events: &'a str,
+        earlier: Earlier,
+    ) -> RunWords<'a>
+        ensures { words_of result ≡ record { plan = plan.now; script = script.now; answers = answers.now; events = events.now; earlier = earlier } }
+    {
+        RunWords {
+            plan,
+            script,
+            answers,
+            events,
+            earlier,
+        }
+    }
 }
 
 /// The system that the program is run on. All that the program does with files and standard input it does by this.
@@ -47,8 +77,9 @@ pub trait Host {
         ensures bytes { IfOk result (λ input. Keeps (bytes_of self.now word.now) (Self.Input.remaining input)) }
         ensures file { IfOk result (λ input. Opens (finds self.now) (reads self.now input) word.now) };
 
-    /// Opens EVENTS, and empties it.
-    fn make(&self, name: &str, earlier: Earlier) -> io::Result<Self::Events>;
+    /// Opens EVENTS, and empties it. The words' files were compared before.
+    fn make(&self, words: &RunWords<'_>) -> io::Result<Self::Events>
+        requires { ∥ IsApartFrom (finds self.now) (words_of words.now) ∥₁ };
 
     /// Waits until EVENTS is on its disk, where it is a regular file.
     fn sync(&self, events: &Self::Events) -> io::Result<()>;

@@ -3,7 +3,7 @@
 ghost use Rattle.std.specs.Prelude.{◌≡◌, ℕ, Bool, true, false, List, Option, Some, IfSome, codes};
 ghost use Rattle.camac_model.specs.Sample.{sample_plan};
 ghost use Rattle.camac_engines.specs.Sample.{sample};
-ghost use Rattle.camac_tool.specs.Apart.{IsApartFrom, Opens, OpensPlan};
+ghost use Rattle.camac_tool.specs.Apart.{IsApartFrom, Opens, OpensPlan, Words};
 ghost use Rattle.camac_tool.specs.Input.{is_sample};
 ghost use Rattle.camac_tool.specs.declared.host.FileId.{FileId};
 
@@ -14,11 +14,11 @@ pub fn sample_is_of_the_rows()
 
 /// Where each name has one file, no input of a run reads that of EVENTS, and it is no standard output.
 pub fn events_is_no_input()
-    ensures { (has : List ℕ → Option FileId → Bool) (reads : ℕ → FileId → Bool) (plan script answers events : List ℕ) (p : Option ℕ) (s a : ℕ) (file : FileId)
+    ensures { (has : List ℕ → Option FileId → Bool) (reads : ℕ → FileId → Bool) (w : Words) (p : Option ℕ) (s a : ℕ) (file : FileId)
         → ((name : List ℕ) (x y : Option FileId) → has name x ≡ true → has name y ≡ true → x ≡ y)
-        → OpensPlan (λ name x. has name x ≡ true) (λ i f. reads i f ≡ true) plan p → Opens (λ name x. has name x ≡ true) (λ f. reads s f ≡ true) script
-        → Opens (λ name x. has name x ≡ true) (λ f. reads a f ≡ true) answers → IsApartFrom (λ name x. has name x ≡ true) plan script answers events
-        → has events (Some file) ≡ true
-        → (is_sample plan ≡ false → IfSome p (λ i. reads i file ≡ false)) × (reads s file ≡ false) × (reads a file ≡ false)
+        → OpensPlan (λ name x. has name x ≡ true) (λ i f. reads i f ≡ true) w.plan p → Opens (λ name x. has name x ≡ true) (λ f. reads s f ≡ true) w.script
+        → Opens (λ name x. has name x ≡ true) (λ f. reads a f ≡ true) w.answers → IsApartFrom (λ name x. has name x ≡ true) w
+        → has w.events (Some file) ≡ true
+        → (is_sample w.plan ≡ false → IfSome p (λ i. reads i file ≡ false)) × (reads s file ≡ false) × (reads a file ≡ false)
         × (has (codes "/proc/self/fd/1") (Some file) ≡ false) × (has (codes "/proc/self/fd/2") (Some file) ≡ false) }
 {}

@@ -1,10 +1,10 @@
 // The program, from its words to its exit status.
 
-ghost use Rattle.std.specs.Prelude.{◌≡◌, IfOk, codes, map, string_bytes};
+ghost use Rattle.std.specs.Prelude.{◌≡◌, IfOk, map, string_bytes};
 ghost use Rattle.std.specs.Io.KnownBytes.{Keeps};
 ghost use Rattle.camac_play.specs.declared.telling.Telling.TheVariants.{Listing, Requests};
 ghost use Rattle.clap.specs.Words.{kind_of};
-ghost use Rattle.camac_tool.specs.Apart.{IsApartFrom};
+ghost use Rattle.camac_tool.specs.Apart.{IsApartFrom, words_of};
 ghost use Rattle.camac_tool.specs.Input.{IsInputOf, is_sample};
 ghost use Rattle.camac_tool.specs.Jobs.{DoesJob, EventsTell, ExplainsRule, HandsOn, IsSettled, OrWriteFault, PlanTells, Replies, Responds, RunsTold, ScriptTells, Tells};
 ghost use Rattle.camac_tool.specs.Status.{Ends, EndsAs, EndsJob, EndsMisuse, EndsUsage};
@@ -14,7 +14,7 @@ ghost use Rattle.camac_word.specs.Watched.{inner_of};
 use crate::devices::run_on_devices;
 use crate::failure::{Failure, Named};
 use crate::gathered::Gathered;
-use crate::host::{Earlier, Host};
+use crate::host::{Earlier, Host, RunWords};
 use crate::input::{open, open_plan, source_of};
 use crate::launch::ArgumentsFault;
 use crate::running::engine_drive;
@@ -145,8 +145,14 @@ impl<'r, 'f, 'a, R: Host + Print + Eprint + AllocGlobal> Tool<'r, 'f, 'a, R> {
                 self.gather(Question::Response(plan, script, every, within), out)
             }
             Job::Events(file) => self.gather(Question::Events(file), out),
-            Job::Run(plan, script, answers, events) => self.run(plan, script, answers, events, out),
-            Job::Drive(plan, script, events) => self.drive(plan, script, events, out),
+            Job::Run(plan, script, answers, events) => {
+                let words = RunWords::new(plan, script, answers, events, Earlier::Emptied);
+                self.run(words, out)
+            }
+            Job::Drive(plan, script, events) => {
+                let words = RunWords::new(plan, script, "@in", events, Earlier::Refused);
+                self.drive(words, out)
+            }
         }
     }
 
@@ -292,21 +298,15 @@ impl<'r, 'f, 'a, R: Host + Print + Eprint + AllocGlobal> Tool<'r, 'f, 'a, R> {
         }
     }
 
-    fn run<W: Write + Drop>(
-        &self,
-        plan: &'a str,
-        script: &'a str,
-        answers: &'a str,
-        events: &'a str,
-        out: W,
-    ) -> (Result<Done<'a>, ToolFault>, W)
-        ensures { HandsOn (RunsTold (R.bytes_of self.now.rt.now) (R.finds self.now.rt.now) plan.now script.now answers.now events.now Listing) (W.contents out) (W.contents result.1) result.0 }
+    fn run<W: Write + Drop>(&self, words: RunWords<'a>, out: W) -> (Result<Done<'a>, ToolFault>, W)
+        ensures { HandsOn (RunsTold (R.bytes_of self.now.rt.now) (R.finds self.now.rt.now) (words_of words.entry) Listing) (W.contents out) (W.contents result.1) result.0 }
     {
-        let (plan, script, lines) = match self.open_run(plan, script, answers, events) {
+        let (plan, script, lines) = match self.open_run(&words) {
             Ok(inputs) => inputs,
             Err(fault) => return (Err(fault), out),
         };
-        let file = NewFile::named(self.rt, events, Earlier::Emptied);
+        let (answers, events) = (words.answers, words.events);
+        let file = NewFile::named(self.rt, words);
         let ran = run_on_devices(
             self.rt.alloc(),
             &mut source_of(plan),
@@ -324,18 +324,17 @@ impl<'r, 'f, 'a, R: Host + Print + Eprint + AllocGlobal> Tool<'r, 'f, 'a, R> {
     // A request goes out in one write to a writer that keeps nothing back, and no answer is read ahead of its request.
     fn drive<W: Write + Drop>(
         &self,
-        plan: &'a str,
-        script: &'a str,
-        events: &'a str,
+        words: RunWords<'a>,
         out: W,
     ) -> (Result<Done<'a>, ToolFault>, W)
-        ensures { OrWriteFault (RunsTold (R.bytes_of self.now.rt.now) (R.finds self.now.rt.now) plan.now script.now (codes "@in") events.now Requests (W.contents out) (W.contents result.1)) result.0 }
+        ensures { OrWriteFault (RunsTold (R.bytes_of self.now.rt.now) (R.finds self.now.rt.now) (words_of words.entry) Requests (W.contents out) (W.contents result.1)) result.0 }
     {
-        let (plan, script, answers) = match self.open_run(plan, script, "@in", events) {
+        let (plan, script, answers) = match self.open_run(&words) {
             Ok(inputs) => inputs,
             Err(fault) => return (Err(fault), out),
         };
-        let file = NewFile::named(self.rt, events, Earlier::Refused);
+        let events = words.events;
+        let file = NewFile::named(self.rt, words);
         let mut file = Watched::new(Named::new(file, events, self.failure));
         let mut out = Watched::new(out);
         let outcome = engine_drive(
@@ -352,10 +351,7 @@ impl<'r, 'f, 'a, R: Host + Print + Eprint + AllocGlobal> Tool<'r, 'f, 'a, R> {
     // The plan, the script and the answers of a run, none of which is EVENTS.
     fn open_run(
         &self,
-        plan: &'a str,
-        script: &'a str,
-        answers: &'a str,
-        events: &'a str,
+        words: &RunWords<'a>,
     ) -> Result<
         (
             Option<Named<'f, 'a, R::Input>>,
@@ -364,15 +360,22 @@ impl<'r, 'f, 'a, R: Host + Print + Eprint + AllocGlobal> Tool<'r, 'f, 'a, R> {
         ),
         ToolFault,
     >
-        ensures plan { IfOk result (λ inputs. IsInputOf (λ i. R.Input.remaining i.device) (R.bytes_of self.now.rt.now plan.now) (is_sample plan.now) inputs.0) }
-        ensures script { IfOk result (λ inputs. Keeps (R.bytes_of self.now.rt.now script.now) (R.Input.remaining inputs.1.device)) }
-        ensures answers { IfOk result (λ inputs. Keeps (R.bytes_of self.now.rt.now answers.now) (R.Input.remaining inputs.2.device)) }
-        ensures apart { IfOk result (λ _. IsApartFrom (R.finds self.now.rt.now) plan.now script.now answers.now events.now) }
+        ensures plan { IfOk result (λ inputs. IsInputOf (λ i. R.Input.remaining i.device) (R.bytes_of self.now.rt.now words.now.plan.now) (is_sample words.now.plan.now) inputs.0) }
+        ensures script { IfOk result (λ inputs. Keeps (R.bytes_of self.now.rt.now words.now.script.now) (R.Input.remaining inputs.1.device)) }
+        ensures answers { IfOk result (λ inputs. Keeps (R.bytes_of self.now.rt.now words.now.answers.now) (R.Input.remaining inputs.2.device)) }
+        ensures apart { IfOk result (λ _. IsApartFrom (R.finds self.now.rt.now) (words_of words.now)) }
     {
-        let plan = open_plan(self.rt, self.failure, plan)?;
-        let script = open(self.rt, self.failure, script)?;
-        let answers = open(self.rt, self.failure, answers)?;
-        keep_apart(self.rt, self.failure, events, &plan, &script, &answers)?;
+        let plan = open_plan(self.rt, self.failure, words.plan)?;
+        let script = open(self.rt, self.failure, words.script)?;
+        let answers = open(self.rt, self.failure, words.answers)?;
+        keep_apart(
+            self.rt,
+            self.failure,
+            words.events,
+            &plan,
+            &script,
+            &answers,
+        )?;
         Ok((plan, script, answers))
     }
 

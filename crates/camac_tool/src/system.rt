@@ -6,7 +6,7 @@ ghost use Rattle.std.specs.Io.KnownBytes.{ReadConsumes};
 ghost use Rattle.std.specs.Str.{bytes_eq};
 ghost use Rattle.camac_tool.specs.Files.{HoldsBytes, IsCharacterDevice, SaysCompared, begins_as_events, events_options, is_standard, left_in, may_empty};
 
-use crate::host::{Earlier, FileId, Host};
+use crate::host::{Earlier, FileId, Host, RunWords};
 use std::fs::{Files, Metadata, OpenFile, OpenOptions};
 use std::io::{Error, ErrorKind, Input as StandardInput, Read};
 use std::os::unix::fs::MetadataExt;
@@ -50,12 +50,12 @@ impl<R: Files + StandardInput> Host for R {
         input_of(self, word)
     }
 
-    fn make(&self, name: &str, earlier: Earlier) -> io::Result<R::File> {
-        let file = events_options().open(self, name)?;
+    fn make(&self, words: &RunWords<'_>) -> io::Result<R::File> {
+        let file = events_options().open(self, words.events)?;
         let about = file.metadata()?;
         if holds_bytes(&about) {
-            let beginning = beginning_of(self, name, earlier, id_in(&about))?;
-            may_empty(earlier, &beginning)?;
+            let beginning = beginning_of(self, words, id_in(&about))?;
+            may_empty(words.earlier, &beginning)?;
             file.set_len(0)?;
         }
         Ok(file)
@@ -125,15 +125,14 @@ fn events_options() -> OpenOptions
 // The first bytes of the file that was opened. A live run reads none.
 fn beginning_of<R: Files>(
     rt: &R,
-    name: &str,
-    earlier: Earlier,
+    words: &RunWords<'_>,
     opened: FileId,
 ) -> io::Result<[u8; HEADER]> {
     let mut beginning = [0; HEADER];
-    if earlier == Earlier::Refused {
+    if words.earlier == Earlier::Refused {
         return Ok(beginning);
     }
-    let mut file = fs::open(rt, name)?;
+    let mut file = fs::open(rt, words.events)?;
     if id_in(&file.metadata()?) != opened {
         return Err(Error::other("another file has its name"));
     }

@@ -1,11 +1,11 @@
 // The event file of a run. Nothing but an older event file is lost by it, and no run ends well before it is on the disk.
 
 ghost use Rattle.std.specs.Prelude.{◌≡◌, ◌↔◌, false, None, IfErr, IfOk, IsOk, IsOkAnd};
-ghost use Rattle.camac_tool.specs.Apart.{Differs, DiffersFromOutputs, IsApart, PlanDiffers, is_same};
+ghost use Rattle.camac_tool.specs.Apart.{Differs, DiffersFromOutputs, IsApart, IsApartFrom, PlanDiffers, is_same, words_of};
 ghost use Rattle.camac_engines.specs.declared.fault.ToolFault.TheVariants.{Write as write-fault};
 
 use crate::failure::{Failure, Named};
-use crate::host::{Earlier, FileId, Host};
+use crate::host::{FileId, Host, RunWords};
 use camac_engines::ToolFault;
 use std::io;
 use std::io::{Error, Write};
@@ -95,19 +95,19 @@ impl<'a> There<'_, 'a> {
 #[derive(Drop)]
 pub struct NewFile<'a, H: Host> {
     host: &'a H,
-    name: &'a str,
-    earlier: Earlier,
+    words: RunWords<'a>,
     file: Option<H::Events>,
+    ghost apart: { ∥ IsApartFrom (H.finds host.now) (words_of words) ∥₁ },
 }
 
 impl<'a, H: Host> NewFile<'a, H> {
-    pub fn named(host: &'a H, name: &'a str, earlier: Earlier) -> NewFile<'a, H>
+    pub fn named(host: &'a H, words: RunWords<'a>) -> NewFile<'a, H>
+        requires { IsApartFrom (H.finds host.now) (words_of words) }
         ensures { result.file ≡ None }
     {
         NewFile {
             host,
-            name,
-            earlier,
+            words,
             file: None,
         }
     }
@@ -118,7 +118,7 @@ impl<H: Host> Write for NewFile<'_, H> {
         if let Some(file) = &mut self.file {
             return file.write(buf);
         }
-        let mut file = self.host.make(self.name, self.earlier)?;
+        let mut file = self.host.make(&self.words)?;
         let written = file.write(buf);
         self.file = Some(file);
         written
