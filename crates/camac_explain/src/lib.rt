@@ -10,6 +10,7 @@ mod pages;
 mod rule;
 mod sentence;
 mod source;
+mod texts;
 
 pub use explanation::{explain_fault, explain_plan, explain_script};
 pub use finding::Finding;

@@ -1,33 +1,31 @@
 // The sentences on the rules of linking and of the checker.
 
-ghost use Rattle.std.specs.Prelude.{◌≡◌, Some, IfOk, option_map, string_bytes};
-ghost use Rattle.camac_lines.specs.Words.{quoted};
+ghost use Rattle.std.specs.Prelude.{◌≡◌, IfOk, map, option_map, string_bytes};
 ghost use Rattle.camac_names.specs.declared.fault.LinkCase.TheVariants.{Place};
-ghost use Rattle.camac_explain.specs.Sentence.{argument_text, budget_text, direction_text, kept_text, is_service_steps, check_sentence_of, cost, does, limit_text, link_sentence_of, sentence_of, sign_of, span, takes, unit_of, when, who};
+ghost use Rattle.camac_explain.specs.Sentence.{budget_text, check_sentence_of, costs_text, does, is_service_steps, kept_text, limit_text, link_sentence_of, says, sentence_of, sign_of, who};
+ghost use Rattle.camac_sentence.specs.Filled.{part_text, range};
 
 use crate::finding::Finding;
-use crate::names;
+use crate::{names, texts};
 use camac_func::FunctionClass;
 use camac_lang::Script;
-use camac_lines::Quote;
 use camac_names::{LinkCase, LinkRule};
 use camac_rules::{Body, Case, CheckRule, Numbers, Operator};
+use camac_sentence::Part::{self, Cost, Count, Large, Number, Quoted, Word};
+use camac_sentence::fill;
 use std::alloc::{AllocError, Global};
-use std::fmt;
 
-// Numbers in words.
-#[derive(Clone, Copy)]
-struct Span(Numbers);
+// The numbers from the first to the last.
+fn range(numbers: Numbers) -> Part<'static>
+    ensures { part_text result ≡ range numbers.low numbers.high }
+{
+    Part::Range(numbers.low, numbers.high)
+}
 
-impl fmt::Display for Span {
-    ghost output = { λ s. Some (span s.0) };
-
-    fn fmt<W: fmt::Write>(&self, f: &mut fmt::Formatter<W>) -> fmt::Result {
-        match self.0 {
-            Numbers { low, high } if low == high => write!(f, "{low}"),
-            Numbers { low, high } => write!(f, "{low} to {high}"),
-        }
-    }
+fn say(alloc: Global, text: &str, parts: &[Part<'_>]) -> Result<Option<String>, AllocError>
+    ensures { IfOk result (λ s. option_map string_bytes s ≡ says text.now (map part_text parts.now)) }
+{
+    fill(alloc, text, parts).map(Some)
 }
 
 /// What a rule knew of a script, in words. None of a rule of the text itself, and of a plan's.
@@ -57,21 +55,22 @@ fn link_sentence(
     match case {
         LinkCase::Malformed => Ok(None),
         LinkCase::Place { crate_no, station } => {
-            place_sentence(alloc, script, rule, crate_no, station).map(Some)
+            place_sentence(alloc, script, rule, crate_no, station)
         }
         LinkCase::Served {
             crate_no,
             station,
             spot,
-        } => {
-            let line = spot.line;
-            format!(in alloc;
-                "Crate {crate_no}, station {station} has a service already, on line {line}."
-            ).map(Some)
-        }
-        LinkCase::Words { allowed, buffer } => format!(in alloc;
-            "The event may have {allowed} words, and the plan's buffer holds {buffer}."
-        ).map(Some),
+        } => say(
+            alloc,
+            texts::SERVED,
+            &[Number(crate_no), Number(station), Number(spot.line)],
+        ),
+        LinkCase::Words { allowed, buffer } => say(
+            alloc,
+            texts::ABOVE_BUFFER,
+            &[Number(allowed), Number(u32::from(buffer))],
+        ),
     }
 }
 
@@ -82,23 +81,26 @@ fn place_sentence(
     rule: LinkRule,
     crate_no: u32,
     station: u32,
-) -> Result<String, AllocError>
-    ensures { IfOk result (λ s. Some (string_bytes s) ≡ link_sentence_of script.now rule (Place crate_no station)) }
+) -> Result<Option<String>, AllocError>
+    ensures { IfOk result (λ s. option_map string_bytes s ≡ link_sentence_of script.now rule (Place crate_no station)) }
 {
-    match rule {
+    let (text, lam) = match rule {
         LinkRule::LamNotInstalled => {
-            let lam = names::lam_at(script, crate_no, station);
-            format!(in alloc;
-                "The LAM {lam} is at crate {crate_no}, station {station}, where the plan has no module."
+            (
+                texts::LAM_WITHOUT_MODULE,
+                names::lam_at(script, crate_no, station),
             )
         }
-        _ => {
-            let lam = names::served_at(script, crate_no, station);
-            format!(in alloc;
-                "The LAM {lam} is at crate {crate_no}, station {station}, which has no GL bit in the plan."
-            )
-        }
-    }
+        _ => (
+            texts::LAM_WITHOUT_BIT,
+            names::served_at(script, crate_no, station),
+        ),
+    };
+    say(
+        alloc,
+        text,
+        &[Quoted(lam), Number(crate_no), Number(station)],
+    )
 }
 
 // What a rule of the checker knew.
@@ -112,158 +114,120 @@ fn check_sentence(
 {
     match case {
         Case::Malformed => Ok(None),
-        Case::NoCrate { crate_no } => {
-            format!(in alloc; "The plan has no crate {crate_no}.").map(Some)
+        Case::NoCrate { crate_no } => say(alloc, texts::NO_CRATE, &[Number(crate_no)]),
+        Case::NoModule { crate_no, station } => {
+            say(
+                alloc,
+                texts::NO_MODULE,
+                &[Number(crate_no), Number(station)],
+            )
         }
-        Case::NoModule { crate_no, station } => format!(in alloc;
-            "The plan has no module at crate {crate_no}, station {station}."
-        ).map(Some),
         Case::NoCommand {
-            function,
+            function: f,
             crate_no,
             station,
-            sub_address,
-        } => format!(in alloc;
-            "The plan declares no F{function} at crate {crate_no}, station {station}, A{sub_address}."
-        ).map(Some),
+            sub_address: a,
+        } => say(
+            alloc,
+            texts::NO_COMMAND,
+            &[Number(f), Number(crate_no), Number(station), Number(a)],
+        ),
         Case::Direction {
-            function,
+            function: f,
             class,
             moves,
-        } => direction_sentence(alloc, function, does(class), does(moves)).map(Some),
+        } => say(
+            alloc,
+            texts::DIRECTION,
+            &[Number(f), Word(does(class)), Word(does(moves))],
+        ),
         Case::Operation {
             operator,
             left,
             right,
-        } => {
-            let (sign, left, right) = (sign_of(operator), Span(left), Span(right));
-            format!(in alloc; "The left of `{sign}` may be {left}, the right {right}.").map(Some)
-        }
-        Case::Width { greatest, bits } => format!(in alloc;
-            "The value may be {greatest}, but has to fit in {bits} bits."
-        ).map(Some),
+        } => say(
+            alloc,
+            texts::SIDES,
+            &[Word(sign_of(operator)), range(left), range(right)],
+        ),
+        Case::Width { greatest, bits } => say(
+            alloc,
+            texts::TOO_WIDE,
+            &[Number(greatest), Number(bits)],
+        ),
         Case::Unset { body, register } => {
-            let register = names::register(script, body, register);
-            format!(in alloc; "The register {register} may be unset here.").map(Some)
+            say(
+                alloc,
+                texts::UNSET,
+                &[Quoted(names::register(script, body, register))],
+            )
         }
         Case::Measure { body, variable } => {
-            let variable = names::variable(script, body, variable);
-            format!(in alloc;
-                "The body itself has to lower {variable} once by a number, and nothing else in it may write {variable}."
-            ).map(Some)
+            let variable = Quoted(names::variable(script, body, variable));
+            say(alloc, texts::NOT_LOWERED, &[variable, variable])
         }
         Case::Kept {
             body,
             variable,
             found,
-            kept,
-        } => kept_sentence(
+            kept: Numbers { low, high },
+        } => {
+            let variable = Quoted(names::variable(script, body, variable));
+            say(
+                alloc,
+                kept_text(rule),
+                &[variable, range(found), Number(low), Number(high)],
+            )
+        }
+        Case::Turns { needed, allowed } => say(
             alloc,
-            when(rule),
-            names::variable(script, body, variable),
-            found,
-            kept,
-        )
-        .map(Some),
-        Case::Turns { needed, allowed } => format!(in alloc;
-            "The loop may take {needed} turns, and {allowed} are allowed."
-        ).map(Some),
-        Case::Annotation { turns, allowed } => format!(in alloc;
-            "The number after `turns` is {turns}, and no loop may take more than {allowed} turns."
-        ).map(Some),
+            texts::TURNS,
+            &[Large(needed), Number(allowed)],
+        ),
+        Case::Annotation { turns, allowed } => {
+            say(alloc, texts::ANNOTATION, &[Number(turns), Number(allowed)])
+        }
         Case::Judged {
             body,
             needed,
             allowed,
-        } => {
-            let (who, needed) = (who(body), Cost(needed));
-            format!(in alloc;
-                "The `each` loops of the {who} judge {needed} statements and turns, and {allowed} are allowed."
-            ).map(Some)
-        }
+        } => say(
+            alloc,
+            texts::JUDGED,
+            &[Word(who(body)), Cost(needed), Number(allowed)],
+        ),
         Case::Budget {
             body,
             needed,
             allowed,
         } => budget_sentence(alloc, rule, body, needed, allowed).map(Some),
-        Case::Crates { first, last } => {
-            let (first, last) = (Span(first), Span(last));
-            format!(in alloc;
-                "The first register holds crate {first}, the last one crate {last}."
-            ).map(Some)
-        }
-        Case::Count { count, words } => format!(in alloc;
-            "The transfer may send {count} words, and the table has {words}."
-        ).map(Some),
-        Case::Crate { numbers } => {
-            let crates = Span(numbers);
-            format!(in alloc;
-                "The crate is {crates} here, which is not one crate of the plan."
-            ).map(Some)
-        }
-        Case::Locked { crate_no } => {
-            format!(in alloc; "Crate {crate_no} is locked already.").map(Some)
-        }
-        Case::Word { greatest } => format!(in alloc;
-            "The word may be {greatest}, and 24 bits hold at most 16777215."
-        ).map(Some),
+        Case::Crates { first, last } => say(alloc, texts::REGISTERS, &[range(first), range(last)]),
+        Case::Count { count, words } => say(alloc, texts::TABLE, &[Number(count), Count(words)]),
+        Case::Crate { numbers } => say(alloc, texts::NOT_ONE_CRATE, &[range(numbers)]),
+        Case::Locked { crate_no } => say(alloc, texts::LOCKED, &[Number(crate_no)]),
+        Case::Word { greatest } => say(alloc, texts::WIDE_WORD, &[Number(greatest)]),
         Case::Counted { body, variable } => {
-            let variable = names::variable(script, body, variable);
-            format!(in alloc; "A `for` around this line counts the variable {variable}.").map(Some)
+            say(
+                alloc,
+                texts::COUNTED,
+                &[Quoted(names::variable(script, body, variable))],
+            )
         }
         Case::Argument {
             procedure,
             argument,
             found,
-            wanted,
+            wanted: Numbers { low, high },
         } => {
-            let place = argument.saturating_add(1);
-            let parameter = names::parameter(script, procedure, argument);
-            argument_sentence(alloc, place, parameter, found, wanted).map(Some)
+            let place = Count(argument.saturating_add(1));
+            let parameter = Quoted(names::parameter(script, procedure, argument));
+            say(
+                alloc,
+                texts::ARGUMENT,
+                &[place, range(found), parameter, Number(low), Number(high)],
+            )
         }
     }
-}
-
-// Of what a function does, and what the statement does.
-fn direction_sentence(
-    alloc: Global,
-    function: u32,
-    acts: &str,
-    moves: &str,
-) -> Result<String, AllocError>
-    ensures { IfOk result (λ s. string_bytes s ≡ direction_text function acts.now moves.now) }
-{
-    format!(in alloc; "F{function} {acts}, and the statement {moves}.")
-}
-
-// Of a kept variable that leaves its range.
-fn kept_sentence(
-    alloc: Global,
-    when: &str,
-    variable: Quote<'_>,
-    found: Numbers,
-    kept: Numbers,
-) -> Result<String, AllocError>
-    ensures { IfOk result (λ s. string_bytes s ≡ kept_text when.now (quoted variable.entry.0.now) found kept) }
-{
-    let Numbers { low, high } = kept;
-    let found = Span(found);
-    format!(in alloc; "{when} {variable} may be {found}, and it is kept in {low} to {high}.")
-}
-
-// Of an argument, by its place from 1.
-fn argument_sentence(
-    alloc: Global,
-    place: usize,
-    parameter: Quote<'_>,
-    found: Numbers,
-    wanted: Numbers,
-) -> Result<String, AllocError>
-    ensures { IfOk result (λ s. string_bytes s ≡ argument_text place (quoted parameter.entry.0.now) found wanted) }
-{
-    let Numbers { low, high } = wanted;
-    let found = Span(found);
-    format!(in alloc; "Argument {place} may be {found}, and {parameter} takes {low} to {high}.")
 }
 
 // What a function or a statement of this class does.
@@ -287,34 +251,6 @@ fn sign_of(operator: Operator) -> &'static str
     }
 }
 
-// A cost, whose greatest number is told of greater ones, too.
-#[derive(Clone, Copy)]
-struct Cost(u64);
-
-impl fmt::Display for Cost {
-    ghost output = { λ c. Some (cost c.0) };
-
-    fn fmt<W: fmt::Write>(&self, f: &mut fmt::Formatter<W>) -> fmt::Result {
-        let more = if self.0 == u64::MAX { "more than " } else { "" };
-        write!(f, "{more}{}", self.0)
-    }
-}
-
-// What a heading allows. The greatest number is what any heading allows at most.
-#[derive(Clone, Copy)]
-struct Limit(u32);
-
-impl fmt::Display for Limit {
-    ghost output = { λ l. Some (limit_text l.0) };
-
-    fn fmt<W: fmt::Write>(&self, f: &mut fmt::Formatter<W>) -> fmt::Result {
-        match self.0 {
-            u32::MAX => write!(f, "and a heading allows at most {}", self.0),
-            _ => write!(f, "its heading allows {}", self.0),
-        }
-    }
-}
-
 fn budget_sentence(
     alloc: Global,
     rule: CheckRule,
@@ -324,13 +260,25 @@ fn budget_sentence(
 ) -> Result<String, AllocError>
     ensures { IfOk result (λ s. string_bytes s ≡ budget_text rule body needed allowed) }
 {
-    let needed = Cost(needed);
     if is_service_steps(rule, body) {
-        format!(in alloc; "The service may take {needed} steps, and {allowed} are allowed.")
-    } else {
-        let (who, takes, unit) = (who(body), takes(rule), unit_of(rule));
-        let limit = Limit(allowed);
-        format!(in alloc; "The {who} may {takes} {needed} {unit}, {limit}.")
+        return fill(
+            alloc,
+            texts::SERVICE_STEPS,
+            &[Cost(needed), Number(allowed)],
+        );
+    }
+    let mut sentence = fill(alloc, costs_text(rule), &[Word(who(body)), Cost(needed)])?;
+    sentence.push_str(limit_sentence(alloc, allowed)?.as_str())?;
+    Ok(sentence)
+}
+
+// What its heading allows, or any heading.
+fn limit_sentence(alloc: Global, allowed: u32) -> Result<String, AllocError>
+    ensures { IfOk result (λ s. string_bytes s ≡ limit_text allowed) }
+{
+    match allowed {
+        u32::MAX => fill(alloc, texts::ANY_HEADING, &[Number(allowed)]),
+        _ => fill(alloc, texts::ITS_HEADING, &[Number(allowed)]),
     }
 }
 
@@ -352,31 +300,22 @@ fn who(body: Body) -> &'static str
     }
 }
 
-fn takes(rule: CheckRule) -> &'static str
-    ensures { result.now ≡ takes rule }
+fn costs_text(rule: CheckRule) -> &'static str
+    ensures { result.now ≡ costs_text rule }
 {
     match rule {
-        CheckRule::TooManyWords => "keep",
-        _ => "take",
-    }
-}
-
-fn unit_of(rule: CheckRule) -> &'static str
-    ensures { result.now ≡ unit_of rule }
-{
-    match rule {
-        CheckRule::TooManyWords => "event words",
-        CheckRule::TooManyCycles => "dataway cycles",
-        _ => "steps",
+        CheckRule::TooManyWords => texts::WORDS,
+        CheckRule::TooManyCycles => texts::CYCLES,
+        _ => texts::STEPS,
     }
 }
 
 // When a kept variable leaves its range.
-fn when(rule: CheckRule) -> &'static str
-    ensures { result.now ≡ when rule }
+fn kept_text(rule: CheckRule) -> &'static str
+    ensures { result.now ≡ kept_text rule }
 {
     match rule {
-        CheckRule::KeepFailsAtEntry => "Before the loop",
-        _ => "After a turn",
+        CheckRule::KeepFailsAtEntry => texts::BEFORE_LOOP,
+        _ => texts::AFTER_TURN,
     }
 }

@@ -10,14 +10,15 @@ use Rattle.camac_tokens.specs.declared.token.Token.{Token}
 use Rattle.camac_tokens.specs.declared.token.TokenKind.{TokenKind}
 use Rattle.camac_tokens.specs.declared.token.TokenKind.TheVariants as kind
 use Rattle.camac_text_cursor.specs.Readers.{is_keyword, is_sign}
-use Rattle.camac_explain_text_words.specs.Absent.{absent_sign, absent_text, absent_word}
+use Rattle.camac_explain_text_words.specs.Absent.{absent_sign, absent_word}
 use Rattle.camac_explain_text_words.specs.Forms.{form_of}
 use Rattle.camac_explain_text_place.specs.Before.{Standing, declared}
 use Rattle.camac_explain_text_place.specs.Found.{word_at}
 use Rattle.camac_explain_text_place.specs.Place.{Place, adjoins_word, moves_data, wants_lam}
-use Rattle.camac_explain_text.specs.Hint.{form_text}
+use Rattle.camac_explain_text.specs.Hint.{absent_text}
 use Rattle.camac_explain_text.specs.Mistake.{case, first_case}
-use Rattle.camac_explain_text.specs.declared.hint.TheConstants.{DIGITS}
+use Rattle.camac_explain_text.specs.declared.texts.TheConstants.{BYTE_ORDER, DIGITS, FIRST_LETTER, FORM}
+use Rattle.camac_sentence.specs.Filled.{with}
 
 -- a word behind which no bracket stands
 abbrev pub is_uncalled : Option TokenKind → Bool
@@ -27,7 +28,7 @@ is_uncalled k = moves_data k || (wants_lam k || (is_keyword word.Cdreg k || is_k
 abbrev pub foreign : Standing → TokenKind → (next : Option TokenKind) → Option (List ℕ)
 foreign s (kind.Name n) next = if is_none (declared n s) then option_map absent_text (absent_word n) else None
 foreign s (kind.Keyword w) next =
-    if is_uncalled (Some (kind.Keyword w)) && is_sign sign.LeftBracket next then option_map form_text (form_of w) else None
+    if is_uncalled (Some (kind.Keyword w)) && is_sign sign.LeftBracket next then option_map (with FORM.now) (form_of w) else None
 foreign s k next = None
 
 -- the first of these tokens of which that is so
@@ -46,8 +47,8 @@ unfoldable pub told_of_byte : Place → Option (List ℕ)
 told_of_byte p =
     first_case (
     case (adjoins_word p && (starts_with nat_eq p.rest (codes "_") || starts_with nat_eq p.rest (codes "'"))) DIGITS.now
-    ∷ case (starts_with nat_eq p.rest (239 ∷ 187 ∷ 191 ∷ [])) (codes "It is a byte order mark (BOM), which cannot be seen: save the script without it.")
-    ∷ case (starts_with nat_eq p.rest (codes "_")) (codes "A name begins with a letter.") ∷ [])
+    ∷ case (starts_with nat_eq p.rest (239 ∷ 187 ∷ 191 ∷ [])) BYTE_ORDER.now
+    ∷ case (starts_with nat_eq p.rest (codes "_")) FIRST_LETTER.now ∷ [])
 
 -- what is to be known: the first of these that is so
 unfoldable pub byte_hint : Place → Option (List ℕ)

@@ -1,6 +1,7 @@
 -- What may be meant at a place, or is to be known there: which hint stands behind a sentence.
-use Rattle.std.specs.Prelude.{ℕ, ◌-◌, ◌==◌, nat_lt, Bool, true, false, ◌&&◌, ◌||◌, not, List, [], ◌∷◌, codes, find, is_none, length, option_and_then, option_map, slice_get, Option, Some, None, if◌then◌else◌}
-use Rattle.camac_lines.specs.Words.{is_near}
+use Rattle.std.specs.Prelude.{ℕ, ◌-◌, ◌==◌, nat_lt, Bool, true, false, ◌&&◌, ◌||◌, not, List, [], ◌∷◌, codes, decimal, find, is_none, length, option_and_then, option_map, slice_get, Option, Some, None, if◌then◌else◌}
+use Rattle.camac_lines.specs.Words.{is_near, quoted, shown_text}
+use Rattle.camac_sentence.specs.Filled.{filled, with}
 use Rattle.camac_tokens.specs.Words.{or_else}
 use Rattle.camac_tokens.specs.declared.fault.NameKind.{NameKind}
 use Rattle.camac_tokens.specs.declared.fault.NameKind.TheVariants as named
@@ -14,14 +15,14 @@ use Rattle.camac_tokens.specs.declared.words.TheConstants.{KEYWORDS}
 use Rattle.camac_text_cursor.specs.Choice.{begins_declaration}
 use Rattle.camac_text_cursor.specs.Readers.{each_word, is_keyword, is_name, is_number}
 use Rattle.camac_text_cursor.specs.declared.choice.Choice.TheVariants as choice
-use Rattle.camac_explain_text_words.specs.Absent.{absent_sign, absent_text}
+use Rattle.camac_explain_text_words.specs.Absent.{absent_sign}
 use Rattle.camac_explain_text_words.specs.Forms.{form_of}
 use Rattle.camac_explain_text_words.specs.Spelled.{is_hexadecimal, is_word, sign_text, word_text}
 use Rattle.camac_explain_text_words.specs.declared.forms.TheConstants.{ASSIGNMENT}
 use Rattle.camac_explain_text_place.specs.Before.{Standing, begins_statement, called_in, declared, first_of, is_in_brackets, is_kind, near, open_line, wants_new_name, word_of}
-use Rattle.camac_explain_text.specs.Hint.{address_text, before_text, brackets_text, called_text, form_text, inside_text, meant_text, name_text, no_arrow_text, no_result_text, of_language_text, open_text, takes_text, tested_text}
+use Rattle.camac_explain_text.specs.Hint.{absent_text, no_arrow_text, takes_text}
 use Rattle.camac_explain_text.specs.Marked.{ends_in_marked_number}
-use Rattle.camac_explain_text.specs.declared.hint.TheConstants.{DIGITS}
+use Rattle.camac_explain_text.specs.declared.texts.TheConstants.{ADDRESS, BRACKETS, CALLED, CYCLES_SET, DIGITS, FORM, INSIDE, MARKED, MEANT, MEANT_BEFORE, MEANT_NAME, NO_RESULT, NO_STATEMENT, OF_LANGUAGE, OPEN, TESTED}
 use Rattle.camac_explain_text.specs.Mistake.{case, first_case, is_either, told_of_kind, usual_mistake}
 use Rattle.camac_explain_text_place.specs.Place.{Place, absent_word_at, adjoins_word, begins_line, begins_statement_at, expects, is_assigned, is_before, is_before_name, last}
 
@@ -33,7 +34,7 @@ unfoldable pub near_beginning : (name : List ℕ) → Option (List ℕ)
 near_beginning name = near_among name KEYWORDS
 
 abbrev pub meant_by_name : Option TokenKind → Option (List ℕ)
-meant_by_name (Some (kind.Name name)) = option_map (before_text name) (near_beginning name)
+meant_by_name (Some (kind.Name name)) = option_map (λ meant. filled MEANT_BEFORE.now (meant ∷ quoted name ∷ [])) (near_beginning name)
 meant_by_name _ = None
 
 -- the token that stands so many before the end of a phrase, or its first one
@@ -73,7 +74,7 @@ is_spelled_out _ = false
 unfoldable pub decimal_digits : Place → Option (List ℕ)
 decimal_digits p =
     first_case (case (is_spelled_out p.token && (is_number (last p) && adjoins_word p)) DIGITS.now
-    ∷ case (expects p choice.Number && ends_in_marked_number p.text) (codes "A `#` begins a comment: write numbers in decimal digits, as `255` for `#ff`.") ∷ [])
+    ∷ case (expects p choice.Number && ends_in_marked_number p.text) MARKED.now ∷ [])
 
 -- what a sign is taken for
 abbrev pub taken_for : Place → Sign → Option Sign
@@ -117,7 +118,7 @@ abbrev pub takes_of : Standing → (procedure : List ℕ) → Option (List ℕ)
 takes_of s procedure = option_and_then (λ d. if is_in_brackets s then Some (takes_text procedure d.parameters) else None) (declared procedure s)
 
 abbrev pub arguments_of_call : Standing → (procedure : List ℕ) → Option (List ℕ)
-arguments_of_call s procedure = if length s.phrase == 2 then Some (brackets_text procedure) else takes_of s procedure
+arguments_of_call s procedure = if length s.phrase == 2 then Some (with BRACKETS.now (shown_text procedure)) else takes_of s procedure
 
 -- the arguments of a call that is not complete
 unfoldable pub arguments : Place → Option (List ℕ)
@@ -125,7 +126,7 @@ arguments p = option_and_then (arguments_of_call p.before) (called_in p.before.p
 
 -- the `{` that is open where the text ends
 unfoldable pub open_block : Place → Option (List ℕ)
-open_block p = option_and_then (λ line. if length p.bytes == 0 then Some (open_text line) else None) (open_line p.before)
+open_block p = option_and_then (λ line. if length p.bytes == 0 then Some (with OPEN.now (decimal line)) else None) (open_line p.before)
 
 abbrev pub word_before_beginning : Place → Option (List ℕ)
 word_before_beginning p = if expects p choice.Declaration || begins_statement_at p then word_before p else None
@@ -139,25 +140,25 @@ form_at p =
 -- behind the list of what might stand there: the first of these that is so
 unfoldable pub unexpected_hint : Place → Option (List ℕ)
 unexpected_hint p =
-    or_else (option_map meant_text (meant_by_sign p))
+    or_else (option_map (with MEANT.now) (meant_by_sign p))
     (or_else (decimal_digits p)
     (or_else (missing_arrow p)
     (or_else (usual_mistake p)
-    (or_else (option_map meant_text (near_word p))
+    (or_else (option_map (with MEANT.now) (near_word p))
     (or_else (word_before_beginning p)
     (or_else (arguments p)
-    (or_else (open_block p) (option_map form_text (form_at p)))))))))
+    (or_else (open_block p) (option_map (with FORM.now) (form_at p)))))))))
 
 -- behind a name that is not declared
 unfoldable pub name_hint : Place → (wanted : NameKind) → Option (List ℕ)
 name_hint p wanted =
     or_else (decimal_digits p)
-    (or_else (option_map meant_text (near_word p))
-    (or_else (option_map (λ d. name_text d.name) (near p.bytes wanted p.before))
+    (or_else (option_map (with MEANT.now) (near_word p))
+    (or_else (option_map (λ d. with MEANT_NAME.now (quoted d.name)) (near p.bytes wanted p.before))
     (first_case (
-    case (is_kind wanted named.Variable && is_before p (codes "(")) (called_text p.bytes)
+    case (is_kind wanted named.Variable && is_before p (codes "(")) (with CALLED.now (shown_text p.bytes))
     ∷ case (is_kind wanted named.Variable && (not (is_assigned p) && is_hexadecimal p.bytes)) DIGITS.now
-    ∷ case (begins_line p && (begins_statement_at p && is_before_name p)) (codes "No statement begins with this word, and a comment begins with `#`.")
+    ∷ case (begins_line p && (begins_statement_at p && is_before_name p)) NO_STATEMENT.now
     ∷ []))))
 
 -- behind a name that is declared as another kind: what a procedure, a register or a LAM is for, in the place of a variable
@@ -165,10 +166,10 @@ unfoldable pub kind_hint : Place → (wanted is : NameKind) → Option (List ℕ
 kind_hint p wanted is =
     or_else
     (first_case (
-    case (is_kind wanted named.Variable && (is_kind is named.Procedure && begins_statement_at p)) (called_text p.bytes)
-    ∷ case (is_kind wanted named.Variable && is_kind is named.Procedure) (no_result_text p.bytes)
-    ∷ case (is_kind wanted named.Variable && is_kind is named.Register) (address_text p.bytes)
-    ∷ case (is_kind wanted named.Variable && is_kind is named.Lam) (tested_text p.bytes) ∷ []))
+    case (is_kind wanted named.Variable && (is_kind is named.Procedure && begins_statement_at p)) (with CALLED.now (shown_text p.bytes))
+    ∷ case (is_kind wanted named.Variable && is_kind is named.Procedure) (with NO_RESULT.now (shown_text p.bytes))
+    ∷ case (is_kind wanted named.Variable && is_kind is named.Register) (with ADDRESS.now (shown_text p.bytes))
+    ∷ case (is_kind wanted named.Variable && is_kind is named.Lam) (with TESTED.now (shown_text p.bytes)) ∷ []))
     (told_of_kind wanted is)
 
 -- a sign of the language that begins as one of another, as `..` does
@@ -179,7 +180,7 @@ sign_of_another p _ = None
 -- a declaration in a body; a `table` that begins its line, since others stand in statements
 unfoldable pub inside : Place → Keyword → Option (List ℕ)
 inside p w =
-    if begins_declaration w && (not (is_word w word.Table) || begins_line p) then option_map (inside_text (word_text w)) (open_line p.before) else None
+    if begins_declaration w && (not (is_word w word.Table) || begins_line p) then option_map (λ line. filled INSIDE.now (word_text w ∷ decimal line ∷ [])) (open_line p.before) else None
 
 -- a word of the language where a new name has to stand
 abbrev pub is_name_wanted : Place → Bool
@@ -192,9 +193,9 @@ is_set p w = is_assigned p && not (begins_statement w)
 unfoldable pub kept_word : Place → Keyword → Option (List ℕ)
 kept_word p w =
     first_case (
-    case (is_name_wanted p) (of_language_text (word_text w))
-    ∷ case (is_set p w && is_either word.Q word.X w) (codes "Each cycle sets the flags, and nothing else does.")
-    ∷ case (is_set p w) (of_language_text (word_text w)) ∷ [])
+    case (is_name_wanted p) (with OF_LANGUAGE.now (word_text w))
+    ∷ case (is_set p w && is_either word.Q word.X w) CYCLES_SET.now
+    ∷ case (is_set p w) (with OF_LANGUAGE.now (word_text w)) ∷ [])
 
 abbrev pub own_of_word : Place → Keyword → Option (List ℕ)
 own_of_word p w = or_else (inside p w) (kept_word p w)

@@ -1,6 +1,5 @@
 -- What is told of a text's fault: what its rule knew, with numbers in decimal and names in quotes, and a hint of its own, where it has one.
-use Rattle.std.specs.Prelude.{ℕ, ◌==◌, Bool, ◌&&◌, ◌||◌, not, List, [], ◌∷◌, ◌++◌, Option, Some, None, codes, decimal, is_none, length, nat_eq, option_map, string_bytes, if◌then◌else◌}
-use Rattle.std.specs.List.{concat}
+use Rattle.std.specs.Prelude.{ℕ, ◌==◌, Bool, ◌&&◌, ◌||◌, not, List, [], ◌∷◌, Option, Some, None, codes, decimal, is_none, length, nat_eq, option_map, string_bytes, if◌then◌else◌}
 use Rattle.camac_lines.specs.Words.{quoted}
 use Rattle.camac_tokens.specs.Words.{or_else}
 use Rattle.camac_tokens.specs.declared.fault.Found.{Found}
@@ -10,16 +9,18 @@ use Rattle.camac_tokens.specs.declared.fault.NameKind.TheVariants as named
 use Rattle.camac_tokens.specs.declared.fault.TextCase.{TextCase}
 use Rattle.camac_tokens.specs.declared.fault.TextCase.TheVariants as told
 use Rattle.camac_text_cursor.specs.declared.choice.Choices.{Choices}
-use Rattle.camac_explain_text_words.specs.Absent.{absent_sign, absent_text, is_spelled}
+use Rattle.camac_explain_text_words.specs.Absent.{absent_sign, is_spelled}
 use Rattle.camac_explain_text_words.specs.Parts.{character, first_byte}
 use Rattle.camac_explain_text_place.specs.Before.{called_in, is_kind}
 use Rattle.camac_explain_text_place.specs.Expected.{expected_of, list_text}
 use Rattle.camac_explain_text.specs.Byte.{byte_hint}
-use Rattle.camac_explain_text.specs.Hint.{takes_text}
+use Rattle.camac_explain_text.specs.Hint.{absent_text, takes_text}
 use Rattle.camac_explain_text_words.specs.Limits.{limit_text}
 use Rattle.camac_explain_text.specs.Meant.{kind_hint, name_hint, own_sentence, unexpected_hint, word_before}
 use Rattle.camac_explain_text.specs.Mistake.{outside_of_bodies}
 use Rattle.camac_explain_text.specs.declared.sentence.TextTold.{TextTold}
+use Rattle.camac_explain_text.specs.declared.texts.TheConstants.{ABOVE, ABOVE_ALL, BRANCH, BYTE, CHARACTER, COUNTER_KEPT, DIVISOR, END, EXPECTED, FOUND, HIDDEN, ITSELF, KEPT_TWICE, MEASURE_KEPT, MISSING, NO_LOCK, OTHER, OTHER_AT, TAKEN, TAKEN_AT}
+use Rattle.camac_sentence.specs.Filled.{filled, with}
 use Rattle.camac_explain_text_place.specs.Place.{Place, absent_word_at, begins_statement_at, declared_line, is_assigned, is_before}
 
 abbrev pub noun : NameKind → List ℕ
@@ -32,26 +33,16 @@ noun named.Variable = codes "variable"
 
 abbrev pub number_text : (token : List ℕ) → (most : ℕ) → List ℕ
 number_text token most =
-    if nat_eq most 4294967295
-    then concat (codes "The number " ∷ quoted token ∷ codes " is above 4294967295, the greatest of all." ∷ [])
-    else concat (codes "The number " ∷ quoted token ∷ codes " is above " ∷ decimal most ∷ codes ", the greatest allowed here." ∷ [])
-
--- of a name that is not declared as this kind
-abbrev pub missing_text : (name : List ℕ) → (wanted : NameKind) → List ℕ
-missing_text name wanted = concat (codes "The name " ∷ quoted name ∷ codes " is not declared above as a " ∷ noun wanted ∷ codes "." ∷ [])
+    if nat_eq most 4294967295 then with ABOVE_ALL.now (quoted token) else filled ABOVE.now (quoted token ∷ decimal most ∷ [])
 
 abbrev pub other_text : (name : List ℕ) → (line : Option ℕ) → (wanted is : NameKind) → List ℕ
-other_text name (Some line) wanted is =
-    concat (codes "The name " ∷ quoted name ∷ codes " is declared on line " ∷ decimal line ∷ codes " as a " ∷ noun is ∷ codes "; expected a " ∷ noun wanted
-    ∷ codes "." ∷ [])
-other_text name None wanted is =
-    concat (codes "The name " ∷ quoted name ∷ codes " is declared as a " ∷ noun is ∷ codes "; expected a " ∷ noun wanted ∷ codes "." ∷ [])
+other_text name (Some line) wanted is = filled OTHER_AT.now (quoted name ∷ decimal line ∷ noun is ∷ noun wanted ∷ [])
+other_text name None wanted is = filled OTHER.now (quoted name ∷ noun is ∷ noun wanted ∷ [])
 
 -- of a name that is declared already, on a line where that is known
 abbrev pub taken_text : (name : List ℕ) → Option ℕ → NameKind → List ℕ
-taken_text name (Some line) by =
-    concat (codes "The name " ∷ quoted name ∷ codes " is taken: it is declared on line " ∷ decimal line ∷ codes " as a " ∷ noun by ∷ codes "." ∷ [])
-taken_text name None by = concat (codes "The name " ∷ quoted name ∷ codes " is taken: it is declared as a " ∷ noun by ∷ codes "." ∷ [])
+taken_text name (Some line) by = filled TAKEN_AT.now (quoted name ∷ decimal line ∷ noun by ∷ [])
+taken_text name None by = filled TAKEN.now (quoted name ∷ noun by ∷ [])
 
 -- a sentence on a fault, and a hint: what may be meant there, or is to be known
 abbrev pub Said : Type 0
@@ -72,17 +63,20 @@ abbrev pub or_said : Option (List ℕ) → Said → Said
 or_said (Some hint) said = alone hint
 or_said None said = said
 
+-- of the word at a place
+abbrev pub of_word : (text word : List ℕ) → Said
+of_word text word = with_hint (with text (quoted word)) None
+
 abbrev pub other_byte_text : (rest : List ℕ) → List ℕ
 other_byte_text rest =
-    if length (character rest) == 0 then concat (codes "The byte " ∷ decimal (first_byte rest) ∷ codes " begins no token." ∷ [])
-    else concat (codes "The character " ∷ quoted (character rest) ∷ codes " begins no token." ∷ [])
+    if length (character rest) == 0 then with BYTE.now (decimal (first_byte rest)) else with CHARACTER.now (quoted (character rest))
 
-abbrev pub start_text : (token : List ℕ) → List ℕ
-start_text [] = codes "Found the end of the script"
-start_text (b ∷ bs) = codes "Found " ++ quoted (b ∷ bs)
+abbrev pub found_text : (token : List ℕ) → List ℕ
+found_text [] = END.now
+found_text (b ∷ bs) = quoted (b ∷ bs)
 
 abbrev pub found_said : (token : List ℕ) → (hint : Option (List ℕ)) → Said
-found_said token hint = with_hint (start_text token ++ codes ".") hint
+found_said token hint = with_hint (with FOUND.now (found_text token)) hint
 
 -- of a call with too few or too many arguments, where its procedure is known
 abbrev pub arguments_said : (token : List ℕ) → (procedure : Option (List ℕ)) → (wanted : ℕ) → Said
@@ -90,7 +84,7 @@ arguments_said token procedure wanted = found_said token (option_map (λ name. t
 
 -- of a token that may not stand where it is, with all that might
 unfoldable pub expected_sentence : (token : List ℕ) → Choices → List ℕ
-expected_sentence token noted = concat (start_text token ∷ codes "; expected " ∷ list_text (expected_of noted) ∷ codes "." ∷ [])
+expected_sentence token noted = filled EXPECTED.now (found_text token ∷ list_text (expected_of noted) ∷ [])
 
 -- of a byte that begins no token: what is to be known, or a sign that the language does not have, or the byte
 abbrev pub byte_said : Place → Said
@@ -119,26 +113,26 @@ absent_variable p wanted = if is_kind wanted named.Variable && is_of_another_lan
 
 -- a word of another language in the place of a variable, or a name that is not declared
 unfoldable pub not_there : Place → (wanted : NameKind) → Said
-not_there p wanted = or_said (option_map absent_text (absent_variable p wanted)) (with_hint (missing_text p.bytes wanted) (name_hint p wanted))
+not_there p wanted = or_said (option_map absent_text (absent_variable p wanted)) (with_hint (filled MISSING.now (quoted p.bytes ∷ noun wanted ∷ [])) (name_hint p wanted))
 
 abbrev pub undeclared : Place → NameKind → Found → Said
 undeclared p wanted found.Nothing = not_there p wanted
 undeclared p wanted (found.Other is) = other_kind p wanted is
-undeclared p wanted found.Itself = with_hint (concat (codes "The procedure " ∷ quoted p.bytes ∷ codes " can be called only after its end." ∷ [])) None
-undeclared p wanted found.Hidden = with_hint (concat (codes "A procedure does not see the variable " ∷ quoted p.bytes ∷ codes " of the script." ∷ [])) None
+undeclared p wanted found.Itself = of_word ITSELF.now p.bytes
+undeclared p wanted found.Hidden = of_word HIDDEN.now p.bytes
 
 -- what is told in this case at a place
 unfoldable pub case_said : Place → TextCase → Said
 case_said p told.Byte = byte_said p
 case_said p told.Unexpected = unexpected p
-case_said p told.ZeroDivisor = found_said p.bytes (Some (codes "A divisor is a number of at least 1."))
-case_said p told.LockInProcedure = alone (codes "A procedure has no `lock`: put the `call` into one.")
+case_said p told.ZeroDivisor = found_said p.bytes (Some DIVISOR.now)
+case_said p told.LockInProcedure = alone NO_LOCK.now
 case_said p (told.ArgumentCount wanted) = arguments_said p.bytes (called_in p.before.phrase) wanted
 case_said p (told.Number most) = with_hint (number_text p.bytes most) None
 case_said p (told.Taken by) = taken p by
-case_said p told.KeptTwice = with_hint (concat (codes "The variable " ∷ quoted p.bytes ∷ codes " is kept twice." ∷ [])) None
-case_said p told.CounterKept = with_hint (concat (codes "The `for` counts the variable " ∷ quoted p.bytes ∷ codes ", which needs no `keep`." ∷ [])) None
-case_said p told.MeasureKept = with_hint (concat (codes "The variable " ∷ quoted p.bytes ∷ codes " is the measure after `by`, and needs no `keep`." ∷ [])) None
+case_said p told.KeptTwice = of_word KEPT_TWICE.now p.bytes
+case_said p told.CounterKept = of_word COUNTER_KEPT.now p.bytes
+case_said p told.MeasureKept = of_word MEASURE_KEPT.now p.bytes
 case_said p (told.Undeclared wanted what) = undeclared p wanted what
 case_said p (told.Limit limit) = with_hint (limit_text p.bytes limit) None
-case_said p told.Branch = with_hint (concat (codes "The branch is " ∷ quoted p.bytes ∷ codes " here, and there is only branch 1." ∷ [])) None
+case_said p told.Branch = of_word BRANCH.now p.bytes

@@ -12,6 +12,7 @@ use Rattle.camac_text.specs.Expecting.{TellsAfter}
 use Rattle.camac_explain_text_place.specs.Found.{kind_at, rest_of}
 use Rattle.camac_explain_text_place.specs.Place.{place_at}
 use Rattle.camac_explain_text.specs.Sentence.{Said, alone, case_said}
+use Rattle.camac_explain_text.specs.declared.texts.TheConstants.{PLAN_FIRST}
 
 abbrev pub is_buffer : TokenKind → Bool
 is_buffer (kind.Name name) = starts_with nat_eq name (codes "buffer")
@@ -22,7 +23,7 @@ abbrev pub begins_like_a_plan : (left : ℕ) → (text : List ℕ) → Bool
 begins_like_a_plan left text = unwrap_or (option_map is_buffer (kind_at text)) (starts_with nat_eq (rest_of left text) (codes "["))
 
 abbrev pub fault_said : (is_plan : Bool) → Choices → (text : List ℕ) → TextCase → (left : ℕ) → Said
-fault_said true noted text case left = alone (codes "This begins like a plan: PLAN comes first, then SCRIPT.")
+fault_said true noted text case left = alone PLAN_FIRST.now
 fault_said false noted text case left = case_said (place_at noted left text) case
 
 -- Of the first fault of a text. Where a rule of the grammar is broken, what the reader looked for there was noted, if no token of the text has a fault.

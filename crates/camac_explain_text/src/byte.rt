@@ -4,15 +4,19 @@ ghost use Rattle.std.specs.Prelude.{◌≡◌, None, Some, if◌then◌else◌, 
 ghost use Rattle.std.specs.List.{starts_with};
 ghost use Rattle.camac_tokens.specs.declared.token.TokenKind.TheVariants as kind;
 ghost use Rattle.camac_explain_text.specs.Byte.{byte_hint, foreign, foreign_in, is_uncalled, method, told_of_byte};
-ghost use Rattle.camac_explain_text.specs.Hint.{form_text, hint_text};
+ghost use Rattle.camac_explain_text.specs.Hint.{absent_text, hint_text};
+ghost use Rattle.camac_explain_text.specs.declared.texts.TheConstants.{FORM};
 ghost use Rattle.camac_explain_text_place.specs.Before.{declared, standing_of};
 ghost use Rattle.camac_explain_text_place.specs.Place.{place_of};
-ghost use Rattle.camac_explain_text_words.specs.Absent.{absent_text, absent_word};
+ghost use Rattle.camac_explain_text_words.specs.Absent.{absent_word};
 ghost use Rattle.camac_explain_text_words.specs.Forms.{form_of};
+ghost use Rattle.camac_sentence.specs.Filled.{with};
 
-use crate::hint::{DIGITS, Hint};
+use crate::hint::{Hint, absent_hint};
+use crate::texts::{BYTE_ORDER, DIGITS, FIRST_LETTER, FORM};
 use camac_explain_text_place::{Before, Found, word_at};
 use camac_explain_text_words::{absent_word, behind, form_of};
+use camac_sentence::Part;
 use camac_text::{Token, TokenKind};
 use camac_tokens::{Keyword, Sign, are_same};
 
@@ -80,16 +84,16 @@ fn foreign_word(word: &[u8]) -> Option<Hint<'_>>
     ensures { option_map hint_text result ≡ option_map absent_text (absent_word word.now) }
 {
     match absent_word(word) {
-        Some(absent) => Some(Hint::Absent(absent)),
+        Some(absent) => Some(absent_hint(absent)),
         None => None,
     }
 }
 
 fn form_of_word(word: Keyword) -> Option<Hint<'static>>
-    ensures { option_map hint_text result ≡ option_map form_text (form_of word) }
+    ensures { option_map hint_text result ≡ option_map (with FORM.now) (form_of word) }
 {
     match form_of(word) {
-        Some(form) => Some(Hint::Form(form)),
+        Some(form) => Some(Hint::One(FORM, Part::Word(form))),
         None => None,
     }
 }
@@ -125,12 +129,10 @@ fn told_of_byte(found: &Found<'_>) -> Option<&'static str>
         return Some(DIGITS);
     }
     if begins_with(found, &[0xEF, 0xBB, 0xBF]) {
-        return Some(
-            "It is a byte order mark (BOM), which cannot be seen: save the script without it.",
-        );
+        return Some(BYTE_ORDER);
     }
     if begins_with(found, b"_") {
-        return Some("A name begins with a letter.");
+        return Some(FIRST_LETTER);
     }
     None
 }

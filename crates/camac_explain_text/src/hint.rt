@@ -1,147 +1,95 @@
 // What may be meant where a text is refused.
 
-ghost use Rattle.std.specs.Prelude.{◌≡◌, Some, None, option_copied, option_map, if◌then◌else◌};
+ghost use Rattle.std.specs.Prelude.{◌≡◌, IfOk, Some, None, option_copied, option_map, string_bytes, if◌then◌else◌};
 ghost use Rattle.camac_lines.specs.Words.{is_near, shown_text};
 ghost use Rattle.camac_tokens.specs.declared.token.Keyword.TheVariants as keyword;
 ghost use Rattle.camac_text_cursor.specs.declared.choice.Choice.TheVariants as choice;
 ghost use Rattle.camac_explain_text_place.specs.Before.{standing_of};
-ghost use Rattle.camac_explain_text.specs.Hint.{arguments_of, before_text, call_text, form_text, hint_text};
+ghost use Rattle.camac_explain_text.specs.Hint.{absent_text, hint_text, no_arrow_text, takes_text};
 ghost use Rattle.camac_explain_text.specs.Meant.{arguments, arguments_of_call, arrow_before_number, arrow_before_value, decimal_digits, fits, form_at, from_end, if_expected, kind_hint, meant_by_name, meant_by_sign, missing_arrow, name_hint, near_among, near_beginning, near_each, near_fitting, near_named, near_word, of_two_before, open_block, taken_for, unexpected_hint, word_before, word_before_beginning};
 ghost use Rattle.camac_explain_text.specs.Mistake.{is_either};
+ghost use Rattle.camac_explain_text.specs.declared.texts.TheConstants.{FORM, MEANT};
 ghost use Rattle.camac_explain_text_place.specs.Place.{expects, place_of};
+ghost use Rattle.camac_explain_text_words.specs.Absent.{absent_of};
 ghost use Rattle.camac_explain_text_words.specs.Spelled.{word_text};
+ghost use Rattle.camac_sentence.specs.Filled.{with};
 
 use crate::marked::ends_in_marked_number;
 use crate::mistake::{told_of_kind, usual_mistake};
+use crate::texts::{
+    ABSENT, ADDRESS, BRACKETS, CALLED, DIGITS, FORM, MARKED, MEANT, MEANT_BEFORE, MEANT_NAME,
+    NO_ARROW, NO_RESULT, NO_STATEMENT, OPEN, TAKES, TAKES_ONE, TESTED,
+};
 use camac_explain_text_place::{Before, Found};
 use camac_explain_text_words::{ASSIGNMENT, Absent, form_of, is_hexadecimal, sign_text, word_text};
 use camac_lines::{Quote, is_near};
+use camac_sentence::{Part, fill};
 use camac_text::{Choice, NameKind, TokenKind};
 use camac_tokens::{KEYWORDS, Keyword, Sign};
-use std::fmt;
+use std::alloc::{AllocError, Global};
 
-/// Of a number of another language.
-pub const DIGITS: &str = "Write numbers in decimal digits, as `255` for `0xff`.";
-
-/// What may be meant, or what is to be known.
+/// What may be meant, or what is to be known: a text, and what stands in its gaps.
 #[derive(Clone, Copy)]
 pub enum Hint<'a> {
     Told(&'static str),
-    /// A word or sign of the language.
-    Meant(&'static str),
-    MeantName(&'a [u8]),
-    /// A word before the token is to be one of the language.
-    MeantBefore { word: &'a [u8], meant: &'static str },
-    /// A block is still open, from this line on.
-    Open { line: u32 },
-    /// This word begins a declaration, and a block is still open, from this line on.
-    Inside { word: &'static str, line: u32 },
-    /// A procedure takes so many arguments.
-    Takes { procedure: &'a [u8], count: usize },
-    /// The arguments of a procedure stand in brackets.
-    Brackets(&'a [u8]),
-    /// How a procedure is called.
-    Called(&'a [u8]),
-    /// The same where its value is wanted.
-    NoResult(&'a [u8]),
-    /// What a register is for.
-    Address(&'a [u8]),
-    /// Before this, the arrow of a cycle.
-    NoArrow(&'a [u8]),
-    /// A word where a name has to stand.
-    OfLanguage(&'static str),
-    /// What the language does not have.
-    Absent(Absent<'a>),
-    /// A LAM in the place of a value.
-    Tested(&'a [u8]),
-    /// How the statement in hand is written.
-    Form(&'static str),
+    One(&'static str, Part<'a>),
+    Two(&'static str, Part<'a>, Part<'a>),
+    Three(&'static str, Part<'a>, Part<'a>, Part<'a>),
 }
 
-impl fmt::Display for Hint<'_> {
-    ghost output = { λ h. Some (hint_text h) };
-
-    fn fmt<W: fmt::Write>(&self, f: &mut fmt::Formatter<W>) -> fmt::Result {
-        match *self {
-            Hint::Told(told) => write!(f, "{told}"),
-            Hint::Meant(word) => write!(f, "Did you mean `{word}`?"),
-            Hint::MeantName(name) => write!(f, "Did you mean {}?", Quote(name)),
-            Hint::MeantBefore { word, meant } => {
-                write!(f, "Did you mean `{meant}` instead of {}?", Quote(word))
-            }
-            Hint::Open { line } => write!(f, "The `{{` of line {line} is still open."),
-            Hint::Inside { word, line } => write!(
-                f,
-                "`{word}` belongs outside of services and procedures, and the `{{` of line {line} is still open."
-            ),
-            Hint::Takes { procedure, count } => {
-                let (procedure, noun) = (Quote(procedure), arguments_of(count));
-                write!(f, "The procedure {procedure} takes {count} {noun}.")
-            }
-            Hint::Brackets(name) => { write!(f, "Write arguments in brackets: {}.", Call(name)) }
-            Hint::Called(name) => write!(f, "A procedure is called by {}.", Call(name)),
-            Hint::NoResult(name) => write!(
-                f,
-                "A procedure has no result: call it by {}.",
-                Call(name)
-            ),
-            Hint::Address(name) => write!(
-                f,
-                "A register holds an address: `cfsa 0 {} -> v` reads from it into `v`.",
-                shown_text(name)
-            ),
-            Hint::NoArrow(name) => {
-                let name = shown_text(name);
-                write!(
-                    f,
-                    "Before `{name}` an arrow is missing: `-> {name}` reads, `<- {name}` writes."
-                )
-            }
-            Hint::OfLanguage(word) => write!(
-                f,
-                "`{word}` is a word of the language: choose another name."
-            ),
-            Hint::Absent(Absent { spelled, write }) => write!(
-                f,
-                "camac has no {}; write {write}.",
-                Quote(spelled)
-            ),
-            Hint::Tested(name) => write!(
-                f,
-                "A LAM has no value: `ctlm {}` tests it, and the answer is the flag `q`.",
-                shown_text(name)
-            ),
-            Hint::Form(form) => write!(f, "Write {form}."),
+impl Hint<'_> {
+    /// In words.
+    pub fn told(self, alloc: Global) -> Result<String, AllocError>
+        ensures { IfOk result (λ s. string_bytes s ≡ hint_text self.entry) }
+    {
+        match self {
+            Hint::Told(text) => String::from_str(alloc, text),
+            Hint::One(text, a) => fill(alloc, text, &[a]),
+            Hint::Two(text, a, b) => fill(alloc, text, &[a, b]),
+            Hint::Three(text, a, b, c) => fill(alloc, text, &[a, b, c]),
         }
     }
 }
 
-fn arguments_of(count: usize) -> &'static str
-    ensures { result.now ≡ arguments_of count }
+/// How many arguments a procedure takes.
+pub fn takes(procedure: &[u8], count: usize) -> Hint<'_>
+    ensures { hint_text result ≡ takes_text procedure.now count }
 {
-    if count == 1 { "argument" } else { "arguments" }
-}
-
-// Bytes as they are, or a `?` where they are no text.
-fn shown_text(bytes: &[u8]) -> &str
-    ensures { result.now ≡ shown_text bytes.now }
-{
-    match str::from_utf8(bytes) {
-        Ok(text) => text,
-        Err(_) => "?",
+    let procedure = Part::Quoted(Quote(procedure));
+    match count {
+        1 => Hint::One(TAKES_ONE, procedure),
+        _ => Hint::Two(TAKES, procedure, Part::Count(count)),
     }
 }
 
-// How a procedure is called.
-#[derive(Clone, Copy)]
-struct Call<'a>(&'a [u8]);
+/// What the language does not have.
+pub fn absent_hint(absent: Absent<'_>) -> Hint<'_>
+    ensures { hint_text result ≡ absent_text (absent_of absent.entry) }
+{
+    let Absent { spelled, write } = absent;
+    Hint::Two(ABSENT, Part::Quoted(Quote(spelled)), Part::Word(write))
+}
 
-impl fmt::Display for Call<'_> {
-    ghost output = { λ c. Some (call_text c.0.now) };
+// With the name of a declaration.
+fn of_name<'a>(text: &'static str, name: &'a [u8]) -> Hint<'a>
+    ensures { hint_text result ≡ with text.now (shown_text name.now) }
+{
+    Hint::One(text, Part::Name(name))
+}
 
-    fn fmt<W: fmt::Write>(&self, f: &mut fmt::Formatter<W>) -> fmt::Result {
-        write!(f, "`call {}(..)`", shown_text(self.0))
-    }
+// A word or a sign of the language.
+fn meant(word: &'static str) -> Hint<'static>
+    ensures { hint_text result ≡ with MEANT.now word.now }
+{
+    Hint::One(MEANT, Part::Word(word))
+}
+
+// Before a name or a number, the arrow of a cycle.
+fn no_arrow(value: &[u8]) -> Hint<'_>
+    ensures { hint_text result ≡ no_arrow_text value.now }
+{
+    let value = Part::Name(value);
+    Hint::Three(NO_ARROW, value, value, value)
 }
 
 /// What may be meant by a token that may not stand where it is, but for a word that is near, which may.
@@ -150,7 +98,7 @@ pub fn unexpected_hint<'a>(found: &'a Found<'_>) -> Option<Hint<'a>>
     ensures { option_map hint_text result ≡ unexpected_hint (place_of found.now) }
 {
     if let Some(sign) = meant_by_sign(found) {
-        return Some(Hint::Meant(sign));
+        return Some(meant(sign));
     }
     if let Some(told) = decimal_digits(found) {
         return Some(Hint::Told(told));
@@ -162,7 +110,7 @@ pub fn unexpected_hint<'a>(found: &'a Found<'_>) -> Option<Hint<'a>>
         return Some(Hint::Told(told));
     }
     if let Some(word) = near_word(found) {
-        return Some(Hint::Meant(word));
+        return Some(meant(word));
     }
     if let Some(hint) = word_before_beginning(found) {
         return Some(hint);
@@ -185,21 +133,19 @@ pub fn name_hint<'a>(found: &'a Found<'_>, wanted: NameKind) -> Option<Hint<'a>>
         return Some(Hint::Told(told));
     }
     if let Some(word) = near_word(found) {
-        return Some(Hint::Meant(word));
+        return Some(meant(word));
     }
     if let Some(near) = found.before.near(found.word, wanted) {
-        return Some(Hint::MeantName(near.name.as_bytes()));
+        return Some(Hint::One(MEANT_NAME, Part::Quoted(Quote(near.name.as_bytes()))));
     }
     if wanted == NameKind::Variable && found.is_before(b"(") {
-        return Some(Hint::Called(found.word));
+        return Some(of_name(CALLED, found.word));
     }
     if wanted == NameKind::Variable && !found.is_assigned() && is_hexadecimal(found.word) {
         return Some(Hint::Told(DIGITS));
     }
     if found.begins_line() && found.begins_statement() && found.is_before_name() {
-        return Some(Hint::Told(
-            "No statement begins with this word, and a comment begins with `#`.",
-        ));
+        return Some(Hint::Told(NO_STATEMENT));
     }
     None
 }
@@ -250,7 +196,7 @@ fn meant_by_name(kind: Option<&TokenKind>) -> Option<Hint<'_>>
     };
     let word = name.as_bytes();
     match near_beginning(word) {
-        Some(meant) => Some(Hint::MeantBefore { word, meant }),
+        Some(meant) => Some(Hint::Two(MEANT_BEFORE, Part::Word(meant), Part::Quoted(Quote(word)))),
         None => None,
     }
 }
@@ -338,9 +284,7 @@ fn decimal_digits(found: &Found<'_>) -> Option<&'static str>
     match (&found.kind, found.last()) {
         (Some(TokenKind::Name(_) | TokenKind::Keyword(_)), Some(TokenKind::Number(_)))
             if found.adjoins_word() => { Some(DIGITS) }
-        _ if found.expects(Choice::Number) && ends_in_marked_number(found.text) => Some(
-            "A `#` begins a comment: write numbers in decimal digits, as `255` for `#ff`.",
-        ),
+        _ if found.expects(Choice::Number) && ends_in_marked_number(found.text) => Some(MARKED),
         _ => None,
     }
 }
@@ -410,7 +354,7 @@ fn arrow_before_value<'a>(found: &Found<'_>, first: Keyword, value: &'a [u8]) ->
     ensures { option_map hint_text result ≡ arrow_before_value (place_of found.now) first value.now }
 {
     if is_transfer(first) && found.expects(Choice::Mark(Sign::Equals)) {
-        Some(Hint::NoArrow(value))
+        Some(no_arrow(value))
     } else {
         None
     }
@@ -420,7 +364,7 @@ fn arrow_before_number<'a>(found: &'a Found<'_>, first: Keyword) -> Option<Hint<
     ensures { option_map hint_text result ≡ arrow_before_number (place_of found.now) first }
 {
     if is_transfer(first) && matches!(found.kind, Some(TokenKind::Number(_))) {
-        Some(Hint::NoArrow(found.word))
+        Some(no_arrow(found.word))
     } else {
         None
     }
@@ -438,12 +382,12 @@ pub fn kind_hint<'a>(found: &'a Found<'_>, wanted: NameKind, kind: NameKind) -> 
     ensures { option_map hint_text result ≡ kind_hint (place_of found.now) wanted kind }
 {
     match (wanted, kind) {
-        (NameKind::Variable, NameKind::Procedure) if found.begins_statement() => Some(Hint::Called(
-            found.word,
+        (NameKind::Variable, NameKind::Procedure) if found.begins_statement() => Some(of_name(
+            CALLED, found.word,
         )),
-        (NameKind::Variable, NameKind::Procedure) => Some(Hint::NoResult(found.word)),
-        (NameKind::Variable, NameKind::Register) => Some(Hint::Address(found.word)),
-        (NameKind::Variable, NameKind::Lam) => Some(Hint::Tested(found.word)),
+        (NameKind::Variable, NameKind::Procedure) => Some(of_name(NO_RESULT, found.word)),
+        (NameKind::Variable, NameKind::Register) => Some(of_name(ADDRESS, found.word)),
+        (NameKind::Variable, NameKind::Lam) => Some(of_name(TESTED, found.word)),
         _ => match told_of_kind(wanted, kind) {
             Some(told) => Some(Hint::Told(told)),
             None => None,
@@ -466,13 +410,10 @@ fn arguments_of_call<'a>(before: &Before, procedure: &'a [u8]) -> Option<Hint<'a
     ensures { option_map hint_text result ≡ arguments_of_call (standing_of before.now) procedure.now }
 {
     if before.phrase.len() == 2 {
-        return Some(Hint::Brackets(procedure));
+        return Some(of_name(BRACKETS, procedure));
     }
     match before.declared(procedure) {
-        Some(declared) if before.is_in_brackets() => {
-            let count = declared.parameters;
-            Some(Hint::Takes { procedure, count })
-        }
+        Some(declared) if before.is_in_brackets() => { Some(takes(procedure, declared.parameters)) }
         _ => None,
     }
 }
@@ -483,16 +424,16 @@ fn open_block<'a>(found: &'a Found<'_>) -> Option<Hint<'a>>
     ensures { option_map hint_text result ≡ open_block (place_of found.now) }
 {
     match found.before.open_line() {
-        Some(line) if found.word.is_empty() => Some(Hint::Open { line }),
+        Some(line) if found.word.is_empty() => Some(Hint::One(OPEN, Part::Number(line))),
         _ => None,
     }
 }
 
 fn form_hint<'a>(found: &'a Found<'_>) -> Option<Hint<'a>>
-    ensures { option_map hint_text result ≡ option_map form_text (form_at (place_of found.now)) }
+    ensures { option_map hint_text result ≡ option_map (with FORM.now) (form_at (place_of found.now)) }
 {
     match form_at(found) {
-        Some(form) => Some(Hint::Form(form)),
+        Some(form) => Some(Hint::One(FORM, Part::Word(form))),
         None => None,
     }
 }

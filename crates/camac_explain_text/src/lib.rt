@@ -8,5 +8,6 @@ mod marked;
 mod mistake;
 mod own;
 mod sentence;
+mod texts;
 
 pub use sentence::{TextTold, text_told};

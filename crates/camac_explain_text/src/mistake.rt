@@ -5,6 +5,12 @@ ghost use Rattle.camac_explain_text_place.specs.Before.{first_of, word_of};
 ghost use Rattle.camac_explain_text.specs.Mistake.{begins_action, compares_or_sets, ends_expression, is_of_condition, joins_comparisons, mistake_after, mistake_after_value, mistake_after_word, mistake_at, mistake_for_value, mistake_in, mistaken_condition, mistaken_sign, of_both, outside_of_bodies, told_of_kind, usual_mistake};
 ghost use Rattle.camac_explain_text_place.specs.Place.{last, place_of};
 
+use crate::texts::{
+    AFTER_ELSE, AFTER_INTO, AFTER_NOT, ANSWER, BEFORE_EACH, BEGINS_AS_0, COMPARES, DIVISOR,
+    FLAG_ALONE, JOINED, NAME_LAM, NAMES_APART, NO_BRACKETS, NO_CALL, NO_DASH, NO_NUMBER,
+    NONE_BELOW_0, ONE_READ, ONE_VALUE, OUTSIDE, REPEATED, SET_REGISTER, TABLE_READ, TWO_SIDES,
+    WORDS_APART,
+};
 use camac_explain_text_place::{Found, begins_statement, is_name, is_operator};
 use camac_text::{Choice, NameKind, TokenKind};
 use camac_tokens::{Keyword, Sign, are_same};
@@ -14,11 +20,9 @@ pub fn told_of_kind(wanted: NameKind, found: NameKind) -> Option<&'static str>
     ensures { option_map (λ s. s.now) result ≡ told_of_kind wanted found }
 {
     match (wanted, found) {
-        (NameKind::Variable, NameKind::Table) => Some(
-            "A table cannot be read: it is for block writes.",
-        ),
-        (NameKind::Register, _) => Some("Set a register to an address first, by `cdreg`."),
-        (NameKind::Lam, _) => Some("Write the name of a LAM here, which `cdlam` declares."),
+        (NameKind::Variable, NameKind::Table) => Some(TABLE_READ),
+        (NameKind::Register, _) => Some(SET_REGISTER),
+        (NameKind::Lam, _) => Some(NAME_LAM),
         _ => None,
     }
 }
@@ -29,7 +33,7 @@ pub fn outside_of_bodies(found: &Found<'_>) -> Option<&'static str>
     ensures { option_map (λ s. s.now) result ≡ outside_of_bodies (place_of found.now) }
 {
     if begins_action(found) && !found.before.in_body() {
-        return Some("A statement belongs in the braces of a service or a procedure.");
+        return Some(OUTSIDE);
     }
     None
 }
@@ -106,15 +110,11 @@ fn mistaken_sign(found: &Found<'_>, first: Keyword, kind: &TokenKind) -> Option<
         return None;
     };
     match (first, *sign) {
-        (Keyword::Var, Sign::Comma) => Some("Write names without commas, as in `var v k`."),
-        (Keyword::Var, Sign::Equals) => Some(
-            "A variable begins as 0: a service sets it, as in `v = 3`.",
-        ),
-        (Keyword::Table, Sign::Comma) => Some("Write words without commas, as in `table t = 1 2`."),
-        (Keyword::Put, Sign::Comma) => Some("A `put` has one value: write `put` before each."),
-        (Keyword::Cfsa | Keyword::Cssa, Sign::Comma) if found.begins_statement() => Some(
-            "A read sets one variable, and the flags `q` and `x` by themselves.",
-        ),
+        (Keyword::Var, Sign::Comma) => Some(NAMES_APART),
+        (Keyword::Var, Sign::Equals) => Some(BEGINS_AS_0),
+        (Keyword::Table, Sign::Comma) => Some(WORDS_APART),
+        (Keyword::Put, Sign::Comma) => Some(ONE_VALUE),
+        (Keyword::Cfsa | Keyword::Cssa, Sign::Comma) if found.begins_statement() => Some(ONE_READ),
         _ => None,
     }
 }
@@ -126,18 +126,12 @@ fn mistaken_condition(found: &Found<'_>, first: Keyword, kind: &TokenKind) -> Op
     use TokenKind::{Keyword as Word, Sign as Mark};
     match (first, kind) {
         (Keyword::For, TokenKind::Name(name)) if are_same(name.as_bytes(), b"each") => Some(
-            "Before `each` stand two numbers, and no `keep`: `for i = 0 to 11 each { .. }`.",
+            BEFORE_EACH,
         ),
-        (Keyword::If | Keyword::While, Word(Keyword::In)) => Some(
-            "A range is tested by two comparisons: `v >= A and v <= B`.",
-        ),
+        (Keyword::If | Keyword::While, Word(Keyword::In)) => Some(TWO_SIDES),
         (Keyword::If | Keyword::While, Mark(Sign::LeftBrace))
-            if found.expects(Choice::Comparison) => {
-            Some("A condition compares, as in `v != 0`.")
-        }
-        _ if joins_comparisons(found, kind) => Some(
-            "Comparisons are joined by `and`: `a < v and v < b`.",
-        ),
+            if found.expects(Choice::Comparison) => Some(COMPARES),
+        _ if joins_comparisons(found, kind) => Some(JOINED),
         _ => None,
     }
 }
@@ -198,14 +192,10 @@ fn mistake_after_value(
 {
     use TokenKind::{Keyword as Word, Name, Sign as Mark};
     match (before, kind) {
-        (Name(_), Mark(Sign::Minus)) if found.adjoins_word() => Some(
-            "A name has letters, digits and `_`, and no dash.",
-        ),
+        (Name(_), Mark(Sign::Minus)) if found.adjoins_word() => Some(NO_DASH),
         (Name(_), Mark(sign)) if is_operator(*sign) && found.expects(Choice::Mark(Sign::Equals)) =>
-            { Some("Repeat the variable after the `=`, as in `v = v + 1`.") }
-        (Word(Keyword::Q | Keyword::X), _) if compares_or_sets(kind) => Some(
-            "Write a flag alone: `q`, or `not q`.",
-        ),
+            Some(REPEATED),
+        (Word(Keyword::Q | Keyword::X), _) if compares_or_sets(kind) => Some(FLAG_ALONE),
         _ => None,
     }
 }
@@ -216,15 +206,9 @@ fn mistake_after_word(before: &TokenKind, kind: &TokenKind) -> Option<&'static s
 {
     use TokenKind::Keyword as Word;
     match (before, kind) {
-        (Word(Keyword::Call), Word(word)) if begins_statement(*word) => Some(
-            "A `call` calls a procedure: write this statement without it, as in `cfsa 0 channel -> v`.",
-        ),
-        (Word(Keyword::Not), Word(Keyword::Not)) => Some(
-            "After `not`, write a comparison, `q` or `x`.",
-        ),
-        (Word(Keyword::Else), Word(Keyword::If)) => Some(
-            "Write the block of `else` in braces; an `if` may be in it.",
-        ),
+        (Word(Keyword::Call), Word(word)) if begins_statement(*word) => Some(NO_CALL),
+        (Word(Keyword::Not), Word(Keyword::Not)) => Some(AFTER_NOT),
+        (Word(Keyword::Else), Word(Keyword::If)) => Some(AFTER_ELSE),
         _ => None,
     }
 }
@@ -239,17 +223,11 @@ fn mistake_for_value(
 {
     use TokenKind::{Keyword as Word, Sign as Mark};
     match (before, kind) {
-        (Mark(Sign::Into), _) => Some(
-            "A read sets a variable after `->`; a write has `<-` and a value.",
-        ),
-        (Mark(Sign::Over | Sign::Modulo), _) => Some("A divisor is a number of at least 1."),
-        (_, Mark(Sign::Minus)) if found.expects(Choice::Number) => Some(
-            "There are no numbers below 0.",
-        ),
+        (Mark(Sign::Into), _) => Some(AFTER_INTO),
+        (Mark(Sign::Over | Sign::Modulo), _) => Some(DIVISOR),
+        (_, Mark(Sign::Minus)) if found.expects(Choice::Number) => Some(NONE_BELOW_0),
         (_, Word(Keyword::Q | Keyword::X))
-            if found.expects(Choice::Number) && !found.before.is_in_brackets() => {
-            Some("A flag is no number: write `v = 0  if q { v = 1 }`.")
-        }
+            if found.expects(Choice::Number) && !found.before.is_in_brackets() => Some(NO_NUMBER),
         _ => None,
     }
 }
@@ -261,17 +239,15 @@ fn mistake_in(found: &Found<'_>, first: Keyword, kind: &TokenKind) -> Option<&'s
 {
     match (first, kind) {
         (Keyword::If | Keyword::While, _)
-            if is_of_condition(kind) && found.before.is_in_brackets() => {
-            Some("Brackets are for expressions, not for conditions.")
-        }
+            if is_of_condition(kind) && found.before.is_in_brackets() => Some(NO_BRACKETS),
         (
             Keyword::Ctlm | Keyword::Ctci | Keyword::Ctcd | Keyword::Ctgl,
             TokenKind::Sign(Sign::Into),
-        ) => Some("The answer is the flag `q`."),
+        ) => Some(ANSWER),
         _ if !is_name(found.expected) => None,
         _ => match found.needed() {
-            NameKind::Register => Some("Set a register to an address first, by `cdreg`."),
-            NameKind::Lam => Some("Write the name of a LAM here, which `cdlam` declares."),
+            NameKind::Register => Some(SET_REGISTER),
+            NameKind::Lam => Some(NAME_LAM),
             _ => None,
         },
     }

@@ -3,11 +3,16 @@
 ghost use Rattle.std.specs.Prelude.{◌≡◌, option_map};
 ghost use Rattle.camac_explain_text.specs.Hint.{hint_text};
 ghost use Rattle.camac_explain_text.specs.Meant.{inside, is_name_wanted, is_set, kept_word, own_of_word, own_sentence, sign_of_another};
+ghost use Rattle.camac_explain_text.specs.declared.texts.TheConstants.{OF_LANGUAGE};
 ghost use Rattle.camac_explain_text_place.specs.Place.{place_of};
+ghost use Rattle.camac_explain_text_words.specs.Spelled.{word_text};
+ghost use Rattle.camac_sentence.specs.Filled.{with};
 
-use crate::hint::{Hint, word_before};
+use crate::hint::{Hint, absent_hint, word_before};
+use crate::texts::{CYCLES_SET, INSIDE, OF_LANGUAGE};
 use camac_explain_text_place::{Found, begins_statement};
 use camac_explain_text_words::word_text;
+use camac_sentence::Part;
 use camac_text::{Choice, TokenKind};
 use camac_tokens::Keyword;
 
@@ -17,7 +22,7 @@ pub fn own_sentence<'a>(found: &'a Found<'_>) -> Option<Hint<'a>>
     ensures { option_map hint_text result ≡ own_sentence (place_of found.now) }
 {
     if let Some(absent) = found.absent_word() {
-        return Some(Hint::Absent(absent));
+        return Some(absent_hint(absent));
     }
     if let Some(hint) = sign_of_another(found) {
         return Some(hint);
@@ -33,7 +38,7 @@ fn sign_of_another<'a>(found: &'a Found<'_>) -> Option<Hint<'a>>
     ensures { option_map hint_text result ≡ sign_of_another (place_of found.now) found.now.kind }
 {
     match (&found.kind, found.absent_sign()) {
-        (Some(TokenKind::Sign(_)), Some(absent)) if absent.spelled.len() > 1 => Some(Hint::Absent(
+        (Some(TokenKind::Sign(_)), Some(absent)) if absent.spelled.len() > 1 => Some(absent_hint(
             absent,
         )),
         _ => None,
@@ -57,8 +62,8 @@ fn inside<'a>(found: &'a Found<'_>, keyword: Keyword) -> Option<Hint<'a>>
         && (keyword != Keyword::Table || found.begins_line());
     match found.before.open_line() {
         Some(line) if is_declaration => {
-            let word = word_text(keyword);
-            Some(Hint::Inside { word, line })
+            let word = Part::Word(word_text(keyword));
+            Some(Hint::Two(INSIDE, word, Part::Number(line)))
         }
         _ => None,
     }
@@ -70,15 +75,19 @@ fn kept_word<'a>(found: &'a Found<'_>, word: Keyword) -> Option<Hint<'a>>
     ensures { option_map hint_text result ≡ kept_word (place_of found.now) word }
 {
     if is_name_wanted(found) {
-        return Some(Hint::OfLanguage(word_text(word)));
+        return Some(of_language(word));
     }
     match word {
         _ if !is_set(found, word) => None,
-        Keyword::Q | Keyword::X => Some(Hint::Told(
-            "Each cycle sets the flags, and nothing else does.",
-        )),
-        _ => Some(Hint::OfLanguage(word_text(word))),
+        Keyword::Q | Keyword::X => Some(Hint::Told(CYCLES_SET)),
+        _ => Some(of_language(word)),
     }
+}
+
+fn of_language(word: Keyword) -> Hint<'static>
+    ensures { hint_text result ≡ with OF_LANGUAGE.now (word_text word) }
+{
+    Hint::One(OF_LANGUAGE, Part::Word(word_text(word)))
 }
 
 fn is_name_wanted(found: &Found<'_>) -> bool

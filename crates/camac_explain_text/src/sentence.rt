@@ -8,23 +8,24 @@ ghost use Rattle.camac_explain_text.specs.Meant.{word_before};
 ghost use Rattle.camac_explain_text.specs.Mistake.{outside_of_bodies};
 ghost use Rattle.camac_explain_text_place.specs.Place.{place_of};
 ghost use Rattle.camac_explain_text.specs.Text.{begins_like_a_plan, fault_said};
-ghost use Rattle.camac_explain_text.specs.Sentence.{absent_variable, arguments_said, byte_said, case_said, expected_sentence, found_said, is_of_another_language, is_value, missing_text, not_there, noun, number_text, other_byte_text, other_kind, other_text, said_of, start_text, taken, taken_text, undeclared, unexpected};
+ghost use Rattle.camac_explain_text.specs.Sentence.{absent_variable, arguments_said, byte_said, case_said, expected_sentence, found_said, found_text, is_of_another_language, is_value, not_there, noun, number_text, of_word, other_byte_text, other_kind, other_text, said_of, taken, taken_text, undeclared, unexpected};
+ghost use Rattle.camac_sentence.specs.Filled.{part_text};
 
 use crate::byte::byte_hint;
-use crate::hint::{Hint, kind_hint, name_hint, unexpected_hint, word_before};
+use crate::hint::{Hint, absent_hint, kind_hint, name_hint, takes, unexpected_hint, word_before};
 use crate::mistake::outside_of_bodies;
 use crate::own::own_sentence;
+use crate::texts::{
+    ABOVE, ABOVE_ALL, BRANCH, BYTE, CHARACTER, COUNTER_KEPT, DIVISOR, END, EXPECTED, FOUND, HIDDEN,
+    ITSELF, KEPT_TWICE, MEASURE_KEPT, MISSING, NO_LOCK, OTHER, OTHER_AT, PLAN_FIRST, TAKEN,
+    TAKEN_AT,
+};
 use camac_explain_text_place::{Found, expected_list, kind_at, rest_of};
 use camac_explain_text_words::{Absent, character, first_byte, is_same_word, limit_told};
 use camac_lines::Quote;
+use camac_sentence::{Part, fill};
 use camac_text::{Choices, NameKind, TextCase, TokenKind};
 use std::alloc::{AllocError, Global};
-
-const PLAN_FIRST: &str = "This begins like a plan: PLAN comes first, then SCRIPT.";
-
-const DIVISOR: &str = "A divisor is a number of at least 1.";
-
-const NO_LOCK: &str = "A procedure has no `lock`: put the `call` into one.";
 
 /// What is told of a text's fault: a sentence on it, and a hint, which is its fix, where this fault has one of its own.
 #[derive(Drop)]
@@ -66,7 +67,6 @@ fn begins_like_a_plan(text: &[u8], left: usize) -> bool
 fn case_told(alloc: Global, found: &Found<'_>, case: TextCase) -> Result<TextTold, AllocError>
     ensures { IfOk result (λ t. said_of t ≡ case_said (place_of found.now) case) }
 {
-    let word = Quote(found.word);
     match case {
         TextCase::Byte => byte_told(alloc, found),
         TextCase::Unexpected => unexpected(alloc, found),
@@ -75,32 +75,25 @@ fn case_told(alloc: Global, found: &Found<'_>, case: TextCase) -> Result<TextTol
         TextCase::ArgumentCount { wanted } => {
             arguments_told(alloc, found.word, found.before.called(), wanted)
         }
-        TextCase::Number { most } => plain(alloc, number_told(alloc, word, most)?),
+        TextCase::Number { most } => plain(alloc, number_told(alloc, found.word, most)?),
         TextCase::Taken { by } => taken(alloc, found, by),
-        TextCase::KeptTwice => plain(
-            alloc,
-            format!(in alloc; "The variable {word} is kept twice.")?,
-        ),
-        TextCase::CounterKept => plain(
-            alloc,
-            format!(in alloc; "The `for` counts the variable {word}, which needs no `keep`.")?,
-        ),
-        TextCase::MeasureKept => plain(
-            alloc,
-            format!(in alloc;
-                "The variable {word} is the measure after `by`, and needs no `keep`."
-            )?,
-        ),
+        TextCase::KeptTwice => of_word(alloc, KEPT_TWICE, found.word),
+        TextCase::CounterKept => of_word(alloc, COUNTER_KEPT, found.word),
+        TextCase::MeasureKept => of_word(alloc, MEASURE_KEPT, found.word),
         TextCase::Undeclared {
             wanted,
             found: what,
         } => undeclared(alloc, found, wanted, what),
         TextCase::Limit(limit) => plain(alloc, limit_told(alloc, found.word, limit)?),
-        TextCase::Branch => plain(
-            alloc,
-            format!(in alloc; "The branch is {word} here, and there is only branch 1.")?,
-        ),
+        TextCase::Branch => of_word(alloc, BRANCH, found.word),
     }
+}
+
+// Of the word at a place.
+fn of_word(alloc: Global, text: &str, word: &[u8]) -> Result<TextTold, AllocError>
+    ensures { IfOk result (λ t. said_of t ≡ of_word text.now word.now) }
+{
+    plain(alloc, fill(alloc, text, &[Part::Quoted(Quote(word))])?)
 }
 
 fn plain(alloc: Global, sentence: String) -> Result<TextTold, AllocError>
@@ -120,19 +113,18 @@ fn told(
         let hint = None;
         return Ok(TextTold { sentence, hint });
     };
-    let hint = Some(format!(in alloc; "{hint}")?);
+    let hint = Some(hint.told(alloc)?);
     Ok(TextTold { sentence, hint })
 }
 
 // Of a number above the greatest that may stand there.
-fn number_told(alloc: Global, token: Quote<'_>, most: u32) -> Result<String, AllocError>
-    ensures { IfOk result (λ s. string_bytes s ≡ number_text token.entry.0.now most) }
+fn number_told(alloc: Global, token: &[u8], most: u32) -> Result<String, AllocError>
+    ensures { IfOk result (λ s. string_bytes s ≡ number_text token.now most) }
 {
+    let token = Part::Quoted(Quote(token));
     match most {
-        u32::MAX => {
-            format!(in alloc; "The number {token} is above 4294967295, the greatest of all.")
-        }
-        _ => format!(in alloc; "The number {token} is above {most}, the greatest allowed here."),
+        u32::MAX => fill(alloc, ABOVE_ALL, &[token]),
+        _ => fill(alloc, ABOVE, &[token, Part::Number(most)]),
     }
 }
 
@@ -145,7 +137,7 @@ fn byte_told(alloc: Global, found: &Found<'_>) -> Result<TextTold, AllocError>
         return told(alloc, Some(sentence), Some(hint));
     }
     match found.absent_sign() {
-        Some(absent) => told(alloc, None, Some(Hint::Absent(absent))),
+        Some(absent) => told(alloc, None, Some(absent_hint(absent))),
         None => plain(alloc, other_byte_told(alloc, found.rest)?),
     }
 }
@@ -155,9 +147,9 @@ fn other_byte_told(alloc: Global, rest: &[u8]) -> Result<String, AllocError>
 {
     let (byte, character) = (first_byte(rest), character(rest));
     if character.is_empty() {
-        format!(in alloc; "The byte {byte} begins no token.")
+        fill(alloc, BYTE, &[Part::Number(u32::from(byte))])
     } else {
-        format!(in alloc; "The character {} begins no token.", Quote(character))
+        fill(alloc, CHARACTER, &[Part::Quoted(Quote(character))])
     }
 }
 
@@ -176,17 +168,20 @@ fn unexpected(alloc: Global, found: &Found<'_>) -> Result<TextTold, AllocError>
 fn expected_told(alloc: Global, token: &[u8], noted: Choices) -> Result<String, AllocError>
     ensures { IfOk result (λ s. string_bytes s ≡ expected_sentence token.now noted) }
 {
-    let start = start_told(alloc, token)?;
     let list = expected_list(alloc, noted)?;
-    format!(in alloc; "{start}; expected {list}.")
+    fill(
+        alloc,
+        EXPECTED,
+        &[what_stands(token), Part::Word(list.as_str())],
+    )
 }
 
-fn start_told(alloc: Global, token: &[u8]) -> Result<String, AllocError>
-    ensures { IfOk result (λ s. string_bytes s ≡ start_text token.now) }
+fn what_stands(token: &[u8]) -> Part<'_>
+    ensures { part_text result ≡ found_text token.now }
 {
     match token {
-        [] => String::from_str(alloc, "Found the end of the script"),
-        [_, ..] => format!(in alloc; "Found {}", Quote(token)),
+        [] => Part::Word(END),
+        [_, ..] => Part::Quoted(Quote(token)),
     }
 }
 
@@ -200,10 +195,7 @@ fn arguments_told(
     ensures { IfOk result (λ t. said_of t ≡ arguments_said token.now (option_map (λ n. n.now) procedure.entry) wanted) }
 {
     match procedure {
-        Some(procedure) => {
-            let count = wanted;
-            found_told(alloc, token, Some(Hint::Takes { procedure, count }))
-        }
+        Some(procedure) => found_told(alloc, token, Some(takes(procedure, wanted))),
         None => found_told(alloc, token, None),
     }
 }
@@ -211,8 +203,11 @@ fn arguments_told(
 fn found_told(alloc: Global, token: &[u8], hint: Option<Hint<'_>>) -> Result<TextTold, AllocError>
     ensures { IfOk result (λ t. said_of t ≡ found_said token.now (option_map hint_text hint.entry)) }
 {
-    let start = start_told(alloc, token)?;
-    told(alloc, Some(format!(in alloc; "{start}.")?), hint)
+    told(
+        alloc,
+        Some(fill(alloc, FOUND, &[what_stands(token)])?),
+        hint,
+    )
 }
 
 #[tactic(auto, unfolding(crate::specs::Sentence::taken))]
@@ -240,12 +235,10 @@ fn taken_told(
 ) -> Result<String, AllocError>
     ensures { IfOk result (λ s. string_bytes s ≡ taken_text name.now line by) }
 {
-    let (name, kind) = (Quote(name), noun(by));
+    let (name, kind) = (Part::Quoted(Quote(name)), Part::Word(noun(by)));
     match line {
-        Some(line) => format!(in alloc;
-            "The name {name} is taken: it is declared on line {line} as a {kind}."
-        ),
-        None => format!(in alloc; "The name {name} is taken: it is declared as a {kind}."),
+        Some(line) => fill(alloc, TAKEN_AT, &[name, Part::Number(line), kind]),
+        None => fill(alloc, TAKEN, &[name, kind]),
     }
 }
 
@@ -257,18 +250,11 @@ fn undeclared(
 ) -> Result<TextTold, AllocError>
     ensures { IfOk result (λ t. said_of t ≡ undeclared (place_of found.now) wanted what) }
 {
-    let name = Quote(found.word);
     match what {
         camac_text::Found::Nothing => not_there(alloc, found, wanted),
         camac_text::Found::Other(kind) => other_kind(alloc, found, wanted, kind),
-        camac_text::Found::Itself => plain(
-            alloc,
-            format!(in alloc; "The procedure {name} can be called only after its end.")?,
-        ),
-        camac_text::Found::Hidden => plain(
-            alloc,
-            format!(in alloc; "A procedure does not see the variable {name} of the script.")?,
-        ),
+        camac_text::Found::Itself => of_word(alloc, ITSELF, found.word),
+        camac_text::Found::Hidden => of_word(alloc, HIDDEN, found.word),
     }
 }
 
@@ -296,12 +282,11 @@ fn other_told(
 ) -> Result<String, AllocError>
     ensures { IfOk result (λ s. string_bytes s ≡ other_text name.now line wanted kind) }
 {
-    let (name, is, needed) = (Quote(name), noun(kind), noun(wanted));
+    let (is, needed) = (Part::Word(noun(kind)), Part::Word(noun(wanted)));
+    let name = Part::Quoted(Quote(name));
     match line {
-        Some(line) => format!(in alloc;
-            "The name {name} is declared on line {line} as a {is}; expected a {needed}."
-        ),
-        None => format!(in alloc; "The name {name} is declared as a {is}; expected a {needed}."),
+        Some(line) => fill(alloc, OTHER_AT, &[name, Part::Number(line), is, needed]),
+        None => fill(alloc, OTHER, &[name, is, needed]),
     }
 }
 
@@ -310,9 +295,10 @@ fn not_there(alloc: Global, found: &Found<'_>, wanted: NameKind) -> Result<TextT
     ensures { IfOk result (λ t. said_of t ≡ not_there (place_of found.now) wanted) }
 {
     if let Some(absent) = absent_variable(found, wanted) {
-        return told(alloc, None, Some(Hint::Absent(absent)));
+        return told(alloc, None, Some(absent_hint(absent)));
     }
-    let sentence = missing_told(alloc, found.word, wanted)?;
+    let name = Part::Quoted(Quote(found.word));
+    let sentence = fill(alloc, MISSING, &[name, Part::Word(noun(wanted))])?;
     told(alloc, Some(sentence), name_hint(found, wanted))
 }
 
@@ -324,13 +310,6 @@ fn absent_variable<'a>(found: &'a Found<'_>, wanted: NameKind) -> Option<Absent<
     } else {
         None
     }
-}
-
-fn missing_told(alloc: Global, name: &[u8], wanted: NameKind) -> Result<String, AllocError>
-    ensures { IfOk result (λ s. string_bytes s ≡ missing_text name.now wanted) }
-{
-    let (name, needed) = (Quote(name), noun(wanted));
-    format!(in alloc; "The name {name} is not declared above as a {needed}.")
 }
 
 // Whether a word stands as in another language, and is no name of a variable that is not declared: it begins a statement that is no

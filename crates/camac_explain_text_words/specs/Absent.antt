@@ -1,10 +1,9 @@
 -- What the language does not have, and what to write in its place.
-use Rattle.std.specs.Prelude.{ℕ, Bool, false, ◌&&◌, ◌||◌, ◌==◌, nat_eq, not, List, [], ◌∷◌, codes, find, length, map, Option, Some, None, option_map, if◌then◌else◌}
+use Rattle.std.specs.Prelude.{ℕ, Bool, false, ◌&&◌, ◌||◌, ◌==◌, nat_eq, not, List, [], ◌∷◌, find, length, map, Option, Some, None, option_map, if◌then◌else◌}
 use Rattle.std.specs.Borrow.{Bor}
-use Rattle.std.specs.List.{concat, ends_with, starts_with}
+use Rattle.std.specs.List.{ends_with, starts_with}
 use Rattle.std.specs.Char.{is_ascii_alphabetic}
 use Rattle.std.specs.Str.{str_eq_ignore_ascii_case}
-use Rattle.camac_lines.specs.Words.{quoted}
 use Rattle.camac_tokens.specs.Words.{or_else}
 use Rattle.camac_explain_text_words.specs.declared.absent.Absent.{Absent}
 use Rattle.camac_explain_text_words.specs.declared.absent.TheConstants.{ABSENT}
@@ -65,7 +64,3 @@ absent_sign before rest =
     or_else (sign_in absent_table 5 before rest)
     (or_else (sign_in absent_table 4 before rest)
     (or_else (sign_in absent_table 3 before rest) (or_else (sign_in absent_table 2 before rest) (sign_in absent_table 1 before rest))))
-
--- camac has none; what to write in its place
-abbrev pub absent_text : List ℕ × List ℕ → List ℕ
-absent_text t = concat (codes "camac has no " ∷ quoted t.0 ∷ codes "; write " ∷ t.1 ∷ codes "." ∷ [])

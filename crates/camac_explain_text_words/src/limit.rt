@@ -5,11 +5,14 @@ ghost use Rattle.camac_explain_text_words.specs.Limits.{limit_in, limit_table, l
 
 use camac_lang::limits;
 use camac_lines::Quote;
+use camac_sentence::{Part, fill};
 use camac_tokens::Limit;
 use std::alloc::{AllocError, Global};
 
 // A limit, what stands before its number, the number, and what stands behind it.
 type Row = (Limit, &'static str, usize, &'static str);
+
+const PASSED: &str = "The limit is passed at %: % % %.";
 
 const OPEN: &str = "brackets and braces are open at once, calls counted";
 
@@ -114,6 +117,7 @@ fn row_told(alloc: Global, token: &[u8], row: Row) -> Result<String, AllocError>
     ensures { IfOk result (λ s. string_bytes s ≡ row_text token.now (row_of row.entry)) }
 {
     let (_, before, most, behind) = row;
-    let token = Quote(token);
-    format!(in alloc; "The limit is passed at {token}: {before} {most} {behind}.")
+    let token = Part::Quoted(Quote(token));
+    let (before, behind) = (Part::Word(before), Part::Word(behind));
+    fill(alloc, PASSED, &[token, before, Part::Count(most), behind])
 }
