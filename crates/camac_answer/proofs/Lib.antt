@@ -1,4 +1,3 @@
 pub mod Readings
-pub mod Few
 pub mod Digits
 pub mod Spelled

@@ -46,7 +46,7 @@ pub fn judged_by(given: u32, limit: u32) -> usize
 }
 
 /// The law that a text gives no more answers than it may.
-#[tactic(auto, using(crate::proofs::Few::few))]
+#[tactic(auto, using(crate::proofs::Readings::few))]
 pub fn answers_are_few()
     ensures { AnswersAreFew }
 {}
