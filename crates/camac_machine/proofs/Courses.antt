@@ -38,13 +38,14 @@ use Rattle.camac_machine.specs.MachineState.{variables_here, registers_here, rea
 use Rattle.camac_machine.specs.Rest.{address_of, transfers, awaited, follows, transfer_left, rest_in, says}
 use Rattle.camac_machine.proofs.Pauses.{asked_all}
 use Rattle.camac_machine.proofs.Actions.{known}
-use Rattle.camac_machine.proofs.Transfers.{on_branch, transfer_continues, transfer_starts, keep_is, transfer_over, transfer_goes, transfer_within, transfer_can}
+use Rattle.camac_machine.proofs.Commands.{on_branch}
 use Rattle.camac_machine.proofs.Fine.{blank, some_is, fine_given, fine_unless, keeps_rest}
 use Rattle.camac_machine.proofs.Rooms.{room_kept}
 use Rattle.camac_machine.proofs.Scopes.{opens_written, room_written, state_written}
 use Rattle.camac_machine.proofs.Frames.{fine_along}
-use Rattle.camac_machine.proofs.Leaves.{fine_as}
+use Rattle.camac_machine.proofs.Loops.{fine_as}
 use Rattle.camac_machine.proofs.Takes.{cost_fits, fine_taken, refused, goes_on, room_after}
+use Rattle.camac_machine.proofs.Transfers.{transfer_continues, transfer_starts, keep_is, transfer_over, transfer_goes, transfer_within, transfer_can}
 
 -- the next cycle of a transfer
 abbrev cycle_at : Command → Course → Option (Bor (List ℕ)) → ℕ → TransferCycle

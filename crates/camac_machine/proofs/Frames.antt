@@ -1,5 +1,5 @@
--- A machine with one block more or less, and with one statement less.
-use Rattle.std.proofs.Common.{◌≡◌, ℕ, ◌+◌, ◌-◌, ◌*◌, ◌<◌, ◌≤◌, List, [], ◌∷◌, ◌++◌, length, length-append, map, refl, sym, ap, subst, ◌∙◌, arith, take, drop}
+-- A machine with one block more or less.
+use Rattle.std.proofs.Common.{◌≡◌, ℕ, ◌+◌, ◌-◌, ◌*◌, ◌<◌, ◌≤◌, List, [], ◌∷◌, ◌++◌, length, length-append, map, refl, sym, ap, subst, ◌∙◌, arith}
 use Rattle.std.proofs.lemmas.List.{append-nil, map-append, length-map}
 use Rattle.std.proofs.Math.Path.{fun_ext}
 use Rattle.std.specs.Prelude.{Option, Some, None, IfSome, IsSomeAnd}
@@ -8,7 +8,7 @@ use Rattle.camac_checked.specs.Checked.{CheckedScript}
 use Rattle.arrayvec.specs.ArrayVec.{ArrayVec}
 use Rattle.camac_lang.specs.declared.tree.Stmt.{Stmt}
 use Rattle.camac_lang.specs.Tree.{Statement, Block, next, Script}
-use Rattle.camac_lang.specs.View.{statements_of, statement_of}
+use Rattle.camac_lang.specs.View.{statements_of}
 use Rattle.camac_branch.specs.Branch.{Answer}
 use Rattle.camac_branch.specs.Crates.{branch_of}
 use Rattle.camac_model.specs.State.{State, stepped}
@@ -24,13 +24,10 @@ use Rattle.camac_machine.specs.declared.machine.Pending.TheVariants.{Cycle, Read
 use Rattle.camac_machine.specs.declared.scope.Scope.{Scope}
 use Rattle.camac_machine.specs.Rest.{nothing, owed, Open, left_of, rest_in, says}
 use Rattle.camac_machine.specs.Within.{StatementFits, Opens, OwnerFits, outer, OpenFit}
-use Rattle.camac_machine.specs.MachineState.{bounds_at, bounds_of, open_in, opens_in, holds, AreHeld, free, reach, context_in, state_of, left_in, stands, IsFineHere, HasRoomFor, HasRoom, IsPending, Awaits, Wants, Enters, Advances, FineThen, TakesFirst, GoesOn}
+use Rattle.camac_machine.specs.MachineState.{bounds_at, bounds_of, open_in, opens_in, holds, AreHeld, free, reach, context_in, state_of, left_in, stands, IsFineHere, HasRoomFor, HasRoom, IsPending, Awaits, Wants, Enters, Advances}
 use Rattle.camac_machine.proofs.Blocks.{then_ends, rest_push, opens_push, opens_pop, says_more, measure_falls}
 use Rattle.camac_machine.proofs.Locks.{held_push, held_same}
 use Rattle.camac_machine.proofs.Rooms.{room_with, room_kept}
-use Rattle.camac_machine.proofs.Lists.{of_whole, longer}
-
--- A machine with one block more or less.
 
 -- what is left with a frame more
 pub left_pushed : (c : Context) (go : Frame → Open) (fs : List Frame) (f : Frame) (s : State) → rest_in c (map go (fs ++ f ∷ [])) s ≡ then_do (left_of c (go f) s) (rest_in c (map go fs))
@@ -222,43 +219,3 @@ goes_further h new f fs popped released e w answers goes =
     ap (λ us. says us (stands w new answers)) e
     ∙ says_more h.unlocks.items released (stands w new answers)
     ∙ ap (says h.unlocks.items) (goes ∙ sym (goes_popped h f fs popped (state_of h answers)))
-
--- The first statement of the innermost block, which is taken off it.
-
--- the frames after it was taken in a slice of them
-pub first_whole : (fs gs ws : List Frame) (first : Stmt) → gs ≡ fs → TakesFirst gs first ws → TakesFirst fs first (take (length fs) (ws ++ drop (length ws) fs))
-first_whole fs gs ws first e t = of_whole (λ a b. TakesFirst a first b) fs gs ws (ap length t.is ∙ longer t.before _ ∙ sym (longer t.before _) ∙ sym (ap length t.was)) e t
-
-module _ {V D C : ℕ} (h : Machine V D C) (first : Stmt) (fs : ArrayVec Frame) (t : TakesFirst h.frames.items first fs.items) where
-  abbrev without : Machine V D C
-  without = record h { frames = record { items = t.before } }
-
-  abbrev within : Machine V D C
-  within = record h { frames = fs }
-
-  goes : (s : State) → then_do (effect (context_in h.checked.now) most_turns (statement_of first) (stepped s)) (left_in within) ≡ then_do (left_of (context_in h.checked.now) (open_in h t.last) s) (left_in without)
-  goes s = goes_begun without (record t.last { rest = t.rest }) fs (open_in h t.last) (statement_of first) t.is (ap statements_of t.first_is) refl s
-
-  pub first_room : HasRoom h → HasRoom within × StatementFits (reach h) (D - length fs.items) (statement_of first)
-  first_room r = room_begun without (record t.last { rest = t.rest }) fs (open_in h t.last) (statement_of first) t.is (ap statements_of t.first_is) refl (room_popped h t.last without.frames t.was r)
-
-  pub first_fine : ((answers : List Answer) → IsFineHere h (stands None h answers)) → FineThen within (λ c s. effect c most_turns (statement_of first) (stepped s))
-  first_fine fine answers = fine_along within h refl refl _ _ (goes (state_of h answers) ∙ sym (goes_popped h t.last without.frames t.was (state_of h answers))) (fine answers)
-
-  pub first_goes : (w : Option Pending) (new : Machine V D C) (b : Option (Bor Stmt)) → Advances 2 within (λ c s. effect c most_turns (statement_of first) (stepped s)) w new → length new.frames.items + 2 * h.steps < 2 * new.steps + length fs.items → GoesOn h w (record new { begun = b })
-  first_goes w new b a pace = record {
-    before = t.before;
-    last = t.last;
-    was = t.was;
-    advances = record {
-      room = room_kept a.room;
-      checked = a.checked;
-      service = a.service;
-      awaits = ready_at new b w a.awaits;
-      pace = let n : length fs.items ≡ length t.before + 1 = ap length t.is ∙ longer t.before _ in omega (arith, pace, n);
-      few = a.few;
-      released = a.released;
-      unlocks = a.unlocks;
-      goes = λ answers. ap (says a.released) (stands_at new b w answers) ∙ a.goes answers ∙ goes (state_of h answers);
-    };
-  }

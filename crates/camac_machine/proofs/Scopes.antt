@@ -1,18 +1,15 @@
--- Stores, what the innermost body sees of one, and the writes to it.
-use Rattle.std.proofs.Common.{◌≡◌, ℕ, ◌<◌, List, length, set, get_or, get_or-set_same, get_or-set_other, replicate, false, refl, sym, ap, inl, inr, eq-eqb, zero, suc, ◌+◌, ◌-◌, ◌≤◌, [], ◌∷◌, take, drop, Option, subst, ◌∙◌, arith, ◌++◌, Some, append_assoc, take_at, drop_at}
-use Rattle.std.proofs.lemmas.Bool.{cases_eq, ne_eqb, cases_lt}
-use Rattle.std.proofs.lemmas.List.{get_or-replicate, get_or_past, length-replicate, length-set, length-take-le, length-take, length-drop, drop-set-add, get_or-take, get_or-drop, take-take, take-set-le, drop_more, replicate_more, take_more_set}
-use Rattle.std.proofs.Math.Path.{fun_ext}
+-- What the innermost body sees of a store, and a write to it.
+use Rattle.std.proofs.Common.{◌≡◌, ℕ, zero, suc, ◌+◌, ◌-◌, ◌<◌, ◌≤◌, List, [], ◌∷◌, length, set, take, drop, get_or, replicate, Option, refl, sym, ap, subst, ◌∙◌, arith, inl, inr}
+use Rattle.std.proofs.lemmas.Bool.{cases_lt}
+use Rattle.std.proofs.lemmas.List.{length-set, length-take-le, length-take, length-drop, drop-set-add, get_or-take, get_or-drop, get_or_past, take-take, take-set-le}
 use Rattle.std.proofs.lemmas.Slice.{between_is}
-use Rattle.std.specs.Prelude.{slice_range}
-use Rattle.camac_branch.specs.Branch.{Branch, Answer}
+use Rattle.std.proofs.Math.Path.{fun_ext}
 use Rattle.camac_branch.specs.Address.{Address}
+use Rattle.camac_branch.specs.Branch.{Answer}
 use Rattle.camac_branch.specs.Crates.{branch_of}
-use Rattle.camac_model.specs.State.{set_at, unlocked, Variables, with_variable}
-use Rattle.camac_model.specs.Meaning.{arguments}
-use Rattle.camac_model.specs.Value.{value, value_and, values}
-use Rattle.camac_lang.specs.Tree.{Script, Expression}
+use Rattle.camac_lang.specs.Tree.{Script}
 use Rattle.camac_lang.specs.View.{statements_of}
+use Rattle.camac_model.specs.State.{Variables, set_at, with_variable}
 use Rattle.camac_machine.specs.declared.machine.Frame.{Frame}
 use Rattle.camac_machine.specs.declared.machine.Machine.{Machine}
 use Rattle.camac_machine.specs.declared.machine.Owner as rust
@@ -21,34 +18,9 @@ use Rattle.camac_machine.specs.declared.scope.Places.{Places}
 use Rattle.camac_machine.specs.MachineState.{owner_of, opens_of, opens_in, AreHeld, reach, with_value, state_of, variables_here, HasRoom}
 use Rattle.camac_machine.specs.Rest.{Owner, nothing, releases, for_loop, while_loop, returns, Open}
 use Rattle.camac_machine.specs.Within.{OwnerFits, outer, outside, OpenFit}
-use Rattle.camac_machine.specs.Store.{size, held_at, variables_in}
+use Rattle.camac_machine.specs.Store.{size, held_at}
 use Rattle.camac_machine.proofs.Rooms.{room_with}
-
--- A list as a function of its places.
-
-set_here : {A : Type 0} (d : A) (xs : List A) (k : ℕ) (v : A) → k < length xs → (i : ℕ) → get_or (set xs k v) i d ≡ set_at k v (λ j. get_or xs j d) i
-set_here d xs k v below i =
-    elim (cases_eq i k) [
-      | inl same ↦ rw (same, eq-eqb k k refl, get_or-set_same xs k v d below) refl
-      | inr other ↦ rw (ne_eqb i k other, get_or-set_other xs k i v d other) refl
-    ]
-
--- with one place changed
-pub set_is : {A : Type 0} (d : A) (xs : List A) (k : ℕ) (v : A) → k < length xs → (λ i. get_or (set xs k v) i d) ≡ set_at k v (λ j. get_or xs j d)
-set_is d xs k v below = fun_ext (set_here d xs k v below)
-
-pub all_same : {A : Type 0} (d : A) (n i : ℕ) → get_or (replicate n d) i d ≡ d
-all_same d n i =
-    elim (cases_lt i n) [
-      | inl less ↦ get_or-replicate n i d d less
-      | inr past ↦ get_or_past (replicate n d) i d (rw length-replicate past)
-    ]
-
--- where no crate is locked, unlocking changes nothing
-pub unlocked_same : (b : Branch) → ((c : ℕ) → (b c).locked ≡ false) → unlocked b ≡ b
-unlocked_same b free = fun_ext (λ c. ap (λ l. record (b c) { locked = l }) (sym (free c)))
-
--- What the innermost body sees of a store, and a write to it.
+use Rattle.camac_machine.proofs.Stores.{set_is, all_same}
 
 take_set : {A : Type 0} (n : ℕ) (xs : List A) (i : ℕ) (v : A) → take n (set xs i v) ≡ set (take n xs) i v
 take_set zero xs i v = refl
@@ -158,73 +130,3 @@ module _ {V D C : ℕ} (h : Machine V D C) (x v : ℕ) where
 
   pub state_written : x < (reach h).variables → HasRoom h → (answers : List Answer) → state_of (with_value h x v) answers ≡ with_variable x v (state_of h answers)
   state_written below r answers = ap (λ (vs : Variables). record (state_of h answers) { variables = vs }) (variables_written below r)
-
--- Arguments that are written to the places of a procedure, one by one.
-
--- places of a list
-range_more : {A : Type 0} (d : A) (xs : List A) (a n : ℕ) → a < length xs → slice_range xs a (a + suc n) ≡ get_or xs a d ∷ slice_range xs (a + 1) (a + 1 + n)
-range_more d xs a n lt =
-    let all : a + suc n - a ≡ suc n = omega arith in
-    let rest : n ≡ a + 1 + n - (a + 1) = omega arith in
-    ap (λ k. take k (drop a xs)) all
-    ∙ ap (take (suc n)) (drop_more xs a d lt)
-    ∙ ap (λ k. get_or xs a d ∷ take k (drop (a + 1) xs)) rest
-
--- a place that was set, and nothing up to it was written after
-set_stays : {A : Type 0} (d : A) (xs ys : List A) (a : ℕ) (v : A) → a < length xs → take (a + 1) ys ≡ take (a + 1) (set xs a v) → get_or ys a d ≡ v
-set_stays d xs ys a v lt e =
-    sym (get_or-take (a + 1) ys a d (omega arith))
-    ∙ ap (λ zs. get_or zs a d) e
-    ∙ get_or-take (a + 1) (set xs a v) a d (omega arith)
-    ∙ get_or-set_same xs a v d lt
-
-pub before_set : {A : Type 0} (xs ys : List A) (a : ℕ) (v : A) → take (a + 1) ys ≡ take (a + 1) (set xs a v) → take a ys ≡ take a xs
-before_set xs ys a v e =
-    sym (take-take a (a + 1) ys (omega arith))
-    ∙ ap (take a) e
-    ∙ take-take a (a + 1) (set xs a v) (omega arith)
-    ∙ take-set-le a xs a v (omega arith)
-
-module _ (e : Expression) (es : List Expression) (p : Places) (place v : ℕ) (old : List ℕ) (after : p.end ≤ place) where
-  -- a write after the caller's places leaves what it sees
-  same_caller : held_at p (set old place v) ≡ held_at p old
-  same_caller = held_before p place (set old place v) old after (take-set-le place old place v (omega arith))
-
-  -- one argument more
-  pub pass_more : (n : ℕ) (new : List ℕ) → place < length old → length new ≡ length old → value e (variables_in (held_at p old)) ≡ Some v
-      → values es (variables_in (held_at p (set old place v))) ≡ Some (slice_range new (place + 1) (place + 1 + n)) → take (place + 1) new ≡ take (place + 1) (set old place v)
-      → values (e ∷ es) (variables_in (held_at p old)) ≡ Some (slice_range new place (place + suc n))
-  pass_more n new lt len first rest before =
-      ap (λ o. value_and o (values es (variables_in (held_at p old)))) first
-      ∙ ap (λ l. value_and (Some v) (values es (variables_in l))) (sym same_caller)
-      ∙ ap (value_and (Some v)) rest
-      ∙ ap (λ w. Some (w ∷ slice_range new (place + 1) (place + 1 + n))) (sym (set_stays 0 old new place v lt before))
-      ∙ ap (λ l. Some l) (sym (range_more 0 new place n (omega (arith, lt, len))))
-
--- one place more holds this value
-pub wiped_more : {A : Type 0} (v : A) (old all : List A) (start place : ℕ) → start ≤ place → place < length all → take place all ≡ take start old ++ replicate (place - start) v
-    → take (place + 1) (set all place v) ≡ take start old ++ replicate (place + 1 - start) v
-wiped_more v old all start place le lt so_far =
-    let next' : place - start + 1 ≡ place + 1 - start = omega (arith, le) in
-    take_more_set all place v lt
-    ∙ ap (λ l. l ++ v ∷ []) so_far
-    ∙ append_assoc (take start old) (replicate (place - start) v) (v ∷ [])
-    ∙ ap (λ l. take start old ++ l) (replicate_more (place - start) v)
-    ∙ ap (λ n. take start old ++ replicate n v) next'
-
-module _ {A : Type 0} (v : A) (p : Places) (old new : List A) (room : p.start ≤ length old) (all : take p.end new ≡ take p.start old ++ replicate (size p) v) where
-  pub wiped : held_at p new ≡ replicate (size p) v
-  wiped = between_is new p.start p.end ∙ ap (drop p.start) all ∙ drop_at (take p.start old) (replicate (size p) v) p.start (length-take-le p.start old room)
-
-  pub before_wiped : p.start ≤ p.end → take p.start new ≡ take p.start old
-  before_wiped order =
-      sym (take-take p.start p.end new order) ∙ ap (take p.start) all ∙ take_at (take p.start old) (replicate (size p) v) p.start (length-take-le p.start old room)
-
--- the values of arguments as the variables of a body
-argument_at : (vs : List ℕ) (i : ℕ) → variables_in vs i ≡ arguments vs i
-argument_at [] i = refl
-argument_at (v ∷ vs) zero = refl
-argument_at (v ∷ vs) (suc i) = argument_at vs i
-
-pub arguments_are : (vs : List ℕ) → ◌≡◌ {A = ℕ → ℕ} (variables_in vs) (arguments vs)
-arguments_are vs = fun_ext (argument_at vs)

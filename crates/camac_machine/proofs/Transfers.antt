@@ -1,19 +1,15 @@
--- Transfers in progress, and the commands of their cycles.
-use Rattle.std.proofs.Common.{◌≡◌, ℕ, zero, suc, ◌+◌, List, [], ◌∷◌, ◌++◌, Option, Some, None, Bool, true, false, refl, sym, ap, subst, ◌∙◌, arith, ◌^◌, ◌<◌, ◌≤◌, inl, inr, ◌⊎◌}
+-- Transfers in progress: what is left of one after a cycle, and what is known where it is fine.
+use Rattle.std.proofs.Common.{◌≡◌, ℕ, zero, suc, ◌+◌, List, [], ◌∷◌, ◌++◌, Option, Some, None, Bool, true, false, refl, sym, ap, subst, ◌∙◌, arith}
 use Rattle.std.proofs.Math.Path.{fun_ext}
-use Rattle.std.proofs.lemmas.Bool.{cases_lt, false≢true}
-use Rattle.std.proofs.lemmas.List.{get_or_past}
-use Rattle.std.proofs.lemmas.Nat.{pow_below}
 use Rattle.std.specs.Prelude.{option_map, slice_get, drop, IsSome, if◌then◌else◌}
 use Rattle.camac_func.specs.declared.data.DataMove.{DataMove}
 use Rattle.camac_func.specs.declared.data.DataMove.TheVariants as moved
 use Rattle.camac_branch.specs.Address.{Address}
-use Rattle.camac_branch.specs.Allowed.{width, AllowsCommands, IsCommand}
+use Rattle.camac_branch.specs.Allowed.{width}
 use Rattle.camac_branch.specs.Branch.{Answer, Reply}
-use Rattle.camac_branch.specs.Plan.{Layout, crate_waits, IsPlan, crate_at}
+use Rattle.camac_branch.specs.Plan.{Layout, crate_waits}
 use Rattle.camac_esone.specs.Progress.{Left, Continues}
 use Rattle.camac_esone.specs.Transfers.{NextAddress, tally}
-use Rattle.camac_esone.specs.Calls.{IsOnBranch}
 use Rattle.camac_model.specs.State.{State, stepped, with_variable, with_word}
 use Rattle.camac_model.specs.Behaviour.{ends, stops, short, Action, then_do, given}
 use Rattle.camac_model.specs.Cycle.{cycle, make_cycle, kept}
@@ -24,8 +20,6 @@ use Rattle.camac_model.specs.Transfer.{transfer_data, keep_word, request, transf
 use Rattle.camac_machine.specs.Course.{words_from, words_after}
 use Rattle.camac_machine.specs.Rest.{transfer_left}
 use Rattle.camac_machine.proofs.Fine.{blank, fine_given, fine_follow, fine_cycle}
-
--- Transfers in progress: what is left of one after a cycle, and what is known where it is fine.
 
 -- a transfer after one Q more is one that wants, sends and ends by the further Q alone
 module _ (plan : Layout) (f : ℕ) (old new : Option (List ℕ)) (next_address later : NextAddress) (finish over : List Bool → Action) (q : Bool)
@@ -140,38 +134,3 @@ module _ (plan : Layout) (f : ℕ) (table : Option (List ℕ)) (next_address : N
         let g = fine_given plan k (transfer_data table qs) (λ d. cycle plan at f d (blank ∷ []) (next' at)) s rest
         (subst (λ o. IsFine plan k (then_do (request o (λ at. given (transfer_data table qs) (λ d. cycle plan at f d (blank ∷ []) (next' at))) (finish qs) s) rest)) e h) in
         let can = fine_cycle plan k at f g.0 (next' at) s rest g.2 in (g.0, g.1, can.0, can.1)
-
--- Commands of safe cycles.
-
-module _ (plan : Layout) (all : AllowsCommands plan) (at : Address) (f : ℕ) where
-  is_command : (d : DataMove) (h : IsSafe plan at f d) → IsCommand at f h.width
-  is_command d h = all at f h.width h.is_allowed
-
-  pub on_branch : (d : DataMove) → IsSafe plan at f d → IsOnBranch at
-  on_branch d h =
-      let k = is_command d h in
-      record { crate_from_1 = k.crate_from_1; crate_to_7 = k.crate_to_7; station = k.station; sub_address = k.sub_address }
-
-  pub word_fits : (v : ℕ) → IsSafe plan at f (moved.Out v) → v < 2 ^ 24
-  word_fits v h = go (cases_lt h.width 24)
-    where
-      low : v < 2 ^ h.width
-      low = h.fits_width
-
-      go : (h.width < 24) ⊎ (24 ≤ h.width) → v < 2 ^ 24
-      go (inl less) = let p : 2 ^ h.width < 2 ^ 24 = pow_below h.width 24 less in omega (arith, low, p)
-      go (inr more) =
-          let most = (is_command (moved.Out v) h).width_to_24 in
-          let same : h.width ≡ 24 = omega (arith, most, more) in subst (λ w. v < 2 ^ w) same low
-
-option_none : {A B : Type 0} (f : A → B) (o : Option A) → o ≡ None → IsSome (option_map f o) → ⊥
-option_none f o e h = false≢true (subst (λ p. IsSome (option_map f p)) e h)
-
--- a crate of the plan has one of the numbers
-pub crate_in_range : (plan : Layout) (c : ℕ) → IsPlan plan → IsSome (crate_waits plan c) → (1 ≤ c) × (c ≤ 7)
-crate_in_range plan zero p h = absurd (false≢true h)
-crate_in_range plan (suc c) p h =
-    elim (cases_lt c 7) [
-      | inl less ↦ (omega arith, omega (arith, less))
-      | inr past ↦ absurd (option_none (λ k. k.waits) (crate_at plan (suc c)) (get_or_past plan.crates c None (rw p.crate_places past)) h)
-    ]

@@ -6,7 +6,7 @@ use Rattle.camac_lang.specs.View.{expression_of}
 use Rattle.camac_model.specs.Value.{values}
 use Rattle.camac_machine.specs.Store.{variables_in, held_at}
 use Rattle.camac_machine.proofs.Lists.{first_of}
-use Rattle.camac_machine.proofs.Scopes.{pass_more, before_set}
+use Rattle.camac_machine.proofs.Passed.{pass_more, before_set}
 use Rattle.camac_machine.proofs.arguments.+pass.Goals as goal
 
 pub returns-in-len1-up-clause-values : goal.returns-in-len1-up-clause-values

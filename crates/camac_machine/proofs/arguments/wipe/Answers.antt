@@ -1,6 +1,6 @@
 use Rattle.std.proofs.Common.{◌≡◌, ◌-◌, ◌++◌, ◌∙◌, replicate, take, refl, sym, ap, subst, append-nil, arith}
 use Rattle.std.proofs.lemmas.List.{length-set}
-use Rattle.camac_machine.proofs.Scopes.{wiped_more, wiped, before_wiped}
+use Rattle.camac_machine.proofs.Passed.{wiped_more, wiped, before_wiped}
 use Rattle.camac_machine.proofs.arguments.wipe.Goals as goal
 
 pub places-init : goal.places-init

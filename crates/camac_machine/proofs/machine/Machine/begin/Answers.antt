@@ -10,7 +10,7 @@ use Rattle.camac_machine.proofs.Actions.{begun}
 use Rattle.camac_machine.proofs.Courses.{proceeds_advance, proceeds_pace}
 use Rattle.camac_machine.proofs.Rooms.{room_kept}
 use Rattle.camac_machine.proofs.Frames.{wants_advance, wants_first, enter_advances, step_advances}
-use Rattle.camac_machine.proofs.Leaves.{while_begins}
+use Rattle.camac_machine.proofs.Loops.{while_begins}
 use Rattle.camac_machine.proofs.Fine.{turns_are}
 use Rattle.camac_machine.proofs.Trees.{assign_is, register_is, put_is, single_is, crate_is, lam_is, scan_is, q_stop_is, q_repeat_is, choose_is, choose_else_is, lock_is, for_is, each_is, while_is, call_is}
 use Rattle.camac_machine.proofs.machine.Machine.begin.Goals as goal

@@ -7,7 +7,7 @@ use Rattle.camac_model.specs.Meaning.{effect, for_from, block_meaning}
 use Rattle.camac_model.specs.Value.{value}
 use Rattle.camac_machine.specs.MachineState.{variables_here}
 use Rattle.camac_machine.proofs.Actions.{has_value, known}
-use Rattle.camac_machine.proofs.Leaves.{fine_as, advances_as, from_to}
+use Rattle.camac_machine.proofs.Loops.{fine_as, advances_as, from_to}
 use Rattle.camac_machine.proofs.machine.Machine.begin_for.Goals as goal
 
 pub value_of-first-requires : goal.value_of-first-requires

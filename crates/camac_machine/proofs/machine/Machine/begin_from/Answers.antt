@@ -3,7 +3,7 @@ use Rattle.std.specs.Prelude.{None}
 use Rattle.camac_lang.specs.View.{statements_of}
 use Rattle.camac_model.specs.Fine.{most_turns}
 use Rattle.camac_model.specs.Meaning.{for_from, for_turns, block_meaning}
-use Rattle.camac_machine.proofs.Leaves.{fine_as, advances_as, unchanged, count_goes, count_none}
+use Rattle.camac_machine.proofs.Loops.{fine_as, advances_as, unchanged, count_goes, count_none}
 use Rattle.camac_machine.proofs.machine.Machine.begin_from.Goals as goal
 
 pub turn-requires : goal.turn-requires

@@ -10,7 +10,7 @@ use Rattle.camac_lang.proofs.Standing.{limits_hold}
 use Rattle.camac_machine.specs.declared.scope.Scope.{Scope}
 use Rattle.camac_machine.specs.Store.{seen_by_procedure}
 use Rattle.camac_machine.proofs.Actions.{call_has}
-use Rattle.camac_machine.proofs.Procedures.{callee, seen_fits, variables_room, registers_room, callee_free, enters_filled}
+use Rattle.camac_machine.proofs.Calls.{callee, seen_fits, variables_room, registers_room, callee_free, enters_filled}
 use Rattle.camac_machine.proofs.Lams.{procedure_at}
 use Rattle.camac_machine.proofs.machine.Machine.call.Goals as goal
 

@@ -8,7 +8,7 @@ use Rattle.camac_lang.specs.View.{expression_of}
 use Rattle.camac_model.specs.Value.{value}
 use Rattle.camac_machine.specs.MachineState.{variables_here}
 use Rattle.camac_machine.proofs.Actions.{crate_has, crate_can, crate_wants, crate_of}
-use Rattle.camac_machine.proofs.Transfers.{on_branch}
+use Rattle.camac_machine.proofs.Commands.{on_branch}
 use Rattle.camac_machine.proofs.machine.Machine.call_crate.Goals as goal
 
 pub value_of-requires : goal.value_of-requires

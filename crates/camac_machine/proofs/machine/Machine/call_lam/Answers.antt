@@ -10,7 +10,7 @@ use Rattle.camac_lang.specs.View.{lam_of}
 use Rattle.camac_model.specs.Meaning.{lam_address}
 use Rattle.camac_machine.specs.MachineState.{context_in}
 use Rattle.camac_machine.proofs.Actions.{lam_can, lam_wants}
-use Rattle.camac_machine.proofs.Transfers.{on_branch}
+use Rattle.camac_machine.proofs.Commands.{on_branch}
 use Rattle.camac_machine.proofs.Lams.{lam_at}
 use Rattle.camac_machine.proofs.machine.Machine.call_lam.Goals as goal
 

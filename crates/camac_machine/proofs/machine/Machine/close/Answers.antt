@@ -6,7 +6,7 @@ use Rattle.camac_machine.specs.declared.machine.Frame.{Frame}
 use Rattle.camac_machine.specs.declared.machine.Machine.{Machine}
 use Rattle.camac_machine.specs.MachineState.{stands, IsFineHere, HasRoom, LastIsOver, GoesOn}
 use Rattle.camac_machine.proofs.Lists.{filled}
-use Rattle.camac_machine.proofs.Leaves.{turn_whole, turn_sets, turn_room, turn_steps, turn_goes_on}
+use Rattle.camac_machine.proofs.Turns.{turn_whole, turn_sets, turn_room, turn_steps, turn_goes_on}
 use Rattle.camac_machine.proofs.machine.Machine.close.Goals as goal
 
 pub set_variable-requires : goal.set_variable-requires

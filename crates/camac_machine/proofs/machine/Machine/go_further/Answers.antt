@@ -5,7 +5,7 @@ use Rattle.camac_model.specs.Meaning.{Context}
 use Rattle.camac_machine.specs.declared.machine.Machine.{Machine}
 use Rattle.camac_machine.specs.MachineState.{after_pending, asked}
 use Rattle.camac_machine.proofs.Courses.{mid_quiet, wants_settles, over_fine, over_settles}
-use Rattle.camac_machine.proofs.Trees.{stands_on}
+use Rattle.camac_machine.proofs.Standing.{stands_on}
 use Rattle.camac_machine.proofs.Pauses.{never_pauses, pauses_never}
 use Rattle.camac_machine.proofs.machine.Machine.go_further.Goals as goal
 

@@ -4,8 +4,8 @@ use Rattle.camac_branch.specs.Branch.{Answer}
 use Rattle.arrayvec.specs.ArrayVec.{ArrayVec, with_items}
 use Rattle.camac_machine.specs.declared.machine.Frame.{Frame}
 use Rattle.camac_machine.specs.MachineState.{stands, IsFineHere, HasRoom, LastIsOver, wanted_if, GoesOn}
-use Rattle.camac_machine.proofs.Frames.{first_whole, first_room, first_fine, first_goes}
-use Rattle.camac_machine.proofs.Trees.{stands_first}
+use Rattle.camac_machine.proofs.Firsts.{first_whole, first_room, first_fine, first_goes}
+use Rattle.camac_machine.proofs.Standing.{stands_first}
 use Rattle.camac_machine.proofs.Lists.{filled}
 use Rattle.camac_machine.proofs.machine.Machine.go_on.Goals as goal
 

@@ -17,8 +17,9 @@ use Rattle.camac_machine.specs.MachineState.{bounds_at, stands, IsFineHere, HasR
 use Rattle.camac_machine.specs.declared.scope.Scope.{Scope}
 use Rattle.camac_machine.specs.Store.{seen_by_service}
 use Rattle.camac_machine.specs.Within.{reach_of, ScopeFits, Opens}
-use Rattle.camac_machine.proofs.Bounds.{Small, fits_parts, bounds_small, scope_fits, body_fits, fine_at, begun, room_begun, goes_begun}
+use Rattle.camac_machine.proofs.Bounds.{Small, fits_parts, bounds_small, scope_fits, body_fits, fine_at}
 use Rattle.camac_machine.proofs.Lams.{service_at}
+use Rattle.camac_machine.proofs.Starts.{begun, room_begun, goes_begun}
 use Rattle.camac_machine.proofs.machine.Machine.serve.Goals as goal
 
 -- a service that the program finds by its number, and the room that there is for it

@@ -9,7 +9,7 @@ use Rattle.camac_model.specs.Value.{value}
 use Rattle.camac_machine.specs.MachineState.{variables_here}
 use Rattle.camac_machine.specs.Rest.{address_of}
 use Rattle.camac_machine.proofs.Actions.{address_set, control_can, read_can, write_has, write_can, control_wants, read_wants, write_wants}
-use Rattle.camac_machine.proofs.Transfers.{on_branch, word_fits}
+use Rattle.camac_machine.proofs.Commands.{on_branch, word_fits}
 use Rattle.camac_machine.proofs.machine.Machine.single.Goals as goal
 
 pub address_in-at-requires : goal.address_in-at-requires

@@ -1,6 +1,6 @@
 use Rattle.std.proofs.Common.{Some, map, ap, ◌∙◌, arith}
 use Rattle.camac_lang.specs.View.{part_of, statements_of}
-use Rattle.camac_machine.proofs.Leaves.{while_test_has, while_test_fine, while_test_stops, while_test_advances}
+use Rattle.camac_machine.proofs.Loops.{while_test_has, while_test_fine, while_test_stops, while_test_advances}
 use Rattle.camac_machine.proofs.machine.Machine.test_while.Goals as goal
 
 pub holds-requires : goal.holds-requires

@@ -5,7 +5,7 @@ use Rattle.camac_machine.specs.declared.machine.Owner.TheVariants.{For}
 use Rattle.camac_machine.specs.MachineState.{reach, free}
 use Rattle.camac_machine.specs.Within.{Opens}
 use Rattle.camac_machine.proofs.Rooms.{room_kept}
-use Rattle.camac_machine.proofs.Leaves.{turn_fine, turn_advances}
+use Rattle.camac_machine.proofs.Loops.{turn_fine, turn_advances}
 use Rattle.camac_machine.proofs.machine.Machine.turn.Goals as goal
 
 pub overflow_add-self : goal.overflow_add-self

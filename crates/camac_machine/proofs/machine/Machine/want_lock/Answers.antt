@@ -5,7 +5,7 @@ use Rattle.camac_lang.specs.View.{expression_of, statements_of}
 use Rattle.camac_model.specs.Value.{value}
 use Rattle.camac_machine.specs.MachineState.{variables_here}
 use Rattle.camac_machine.proofs.Actions.{lock_has, lock_can, lock_wants}
-use Rattle.camac_machine.proofs.Transfers.{crate_in_range}
+use Rattle.camac_machine.proofs.Commands.{crate_in_range}
 use Rattle.camac_machine.proofs.machine.Machine.want_lock.Goals as goal
 
 pub value_of-requires : goal.value_of-requires
