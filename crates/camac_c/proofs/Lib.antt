@@ -1,4 +1,9 @@
 pub mod Answered
 pub mod Calls
+pub mod Found
 pub mod Over
+pub mod Ran
+pub mod Read
+pub mod Responded
 pub mod Taken
+pub mod Values
