@@ -1,5 +1,10 @@
-pub mod Actions
+pub mod Listed
+pub mod Wider
+pub mod Sorts
 pub mod ByRows
+pub mod Actions
+pub mod Loops
+pub mod Matches
 pub mod Statements
 pub mod Made
 pub mod Services
