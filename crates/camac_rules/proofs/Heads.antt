@@ -428,7 +428,7 @@ reaches_small around (Some k) s r y = r.variables.small y
 -- What the turns of loops have in common: what is known where one begins, and what they cost.
 
 -- at an end, what the rules promise and what is left alone
-pub meets_both : (plan : Layout) (P : Unit {0} → Stop → State → Type 0) (Q R : Unit {0} → State → Type 0) (b : Behaviour State) → Meets step_of_sound (SafePiece plan) P Q tt b → Meets step frame.AnyPiece frame.AnyStop R tt b → Meets step_of_sound (SafePiece plan) P (λ x t. Q x t × R x t) tt b
+pub meets_both : (plan : Layout) (P : Unit {0} → Stop → State → Type 0) (Q R : Unit {0} → State → Type 0) (b : Behaviour State) → Meets step_of_sound (SafePiece plan) P Q tt b → Meets step AnyPiece AnyStop R tt b → Meets step_of_sound (SafePiece plan) P (λ x t. Q x t × R x t) tt b
 meets_both plan P Q R (does p b) h k = (h.0, meets_both plan P Q R b h.1 k.1)
 meets_both plan P Q R (ends t) h k = (h, k)
 meets_both plan P Q R (stops w t) h k = h
