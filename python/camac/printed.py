@@ -112,7 +112,7 @@ REQUESTS = (
 )
 REFUSAL = Form(Refusal, "refused {code:code}(?: line {line}(?: column {column})?)?: {rule:rest}")
 # Where a refusal begins in what `camac tell` prints, and where the lines of `camac costs` do.
-REFUSED, BODIES = re.compile("(?m)^(?=refused )"), re.compile("(?m)^(?:service|proc) \\w+ line ")
+REFUSED, UNKEPTS, BODIES = re.compile("(?m)^(?=refused )"), re.compile("(?m)^unkept "), re.compile("(?m)^(?:service|proc) \\w+ line ")
 SOURCE, MARK = re.compile(r" *\d+ \|.*"), re.compile(r" *\| \s*\^")
 # Of sentences.
 NEAR = Form(Near, r"Did you mean `{word:quoted}`(?: instead of `{earlier:quoted}`)?\?")
@@ -152,7 +152,8 @@ def _read(line: str, *forms: "Form[Any]") -> Any:
 
 def read_services(printed: str) -> List[Service]:
     """What `camac check` prints of an accepted script, and `camac tell` before the lines of `camac costs`."""
-    return [_read(line, SERVICE) for line in printed[: len(printed) - len(costs_in(printed))].splitlines()[1:]]
+    found = BODIES.search(printed)
+    return [_read(line, SERVICE) for line in printed[: found.start() if found else None].splitlines()[1:]]
 
 
 def read_headings(printed: str) -> List[Heading]:
@@ -181,8 +182,14 @@ def read_bodies(printed: str) -> List[Body]:
 
 def costs_in(printed: str) -> str:
     """The lines of `camac costs` in what `camac tell` prints of an accepted script."""
-    found = BODIES.search(printed)
-    return printed[found.start() :] if found else ""
+    found, behind = BODIES.search(printed), UNKEPTS.search(printed)
+    return printed[found.start() : behind.start() if behind else None] if found else ""
+
+
+def read_unkept(printed: str) -> List[Unkept]:
+    """What `camac tell` prints of what a script does to look-at-mes."""
+    found = UNKEPTS.search(printed)
+    return [_read(line, UNKEPT) for line in printed[found.start() :].splitlines()] if found else []
 
 
 def row_at(printed: str, line: int, column: int) -> Optional[Row]:

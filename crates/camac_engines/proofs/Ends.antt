@@ -1,10 +1,11 @@
 -- What is told at once ends as `check` does.
-use Rattle.std.proofs.Common.{◌≡◌, ℕ, List, ◌++◌, Option, Some, None, refl, sym, ap, ◌∙◌}
+use Rattle.std.proofs.Common.{◌≡◌, ℕ, List, Option, Some, None, refl, sym, ap, ◌∙◌}
 use Rattle.std.specs.Prelude.{Result, Ok, Err}
 use Rattle.camac_lang.specs.Tree.{Script}
 use Rattle.camac_tokens.specs.Fault.{Fault as TextFault}
 use Rattle.camac_text.specs.Parser.{script_of}
 use Rattle.camac_branch.specs.Plan.{Layout}
+use Rattle.camac_lines.specs.Verdict.{verdict_text}
 use Rattle.camac_names.specs.Link.{link_fault}
 use Rattle.camac_names.specs.declared.fault.LinkFault.{LinkFault}
 use Rattle.camac_names.specs.declared.fault.LinkFault.TheVariants as link
@@ -13,7 +14,7 @@ use Rattle.camac_rules.specs.Fault.{Fault, broken}
 use Rattle.camac_model.specs.Fine.{Bounds}
 use Rattle.camac_engines.specs.Accepted.{Accepted, accepted, accepted_checked, accepted_linked, accepted_read}
 use Rattle.camac_engines.specs.Report.{Report, report, report_accepted, report_linked, report_read}
-use Rattle.camac_engines.specs.Tell.{TellEndsAsCheck, TellsJudged, and_more, told_costs}
+use Rattle.camac_engines.specs.Tell.{TellEndsAsCheck, TellsJudged}
 use Rattle.camac_engines.specs.declared.outcome.Outcome.{Outcome}
 use Rattle.camac_engines.specs.declared.outcome.Outcome.TheVariants.{Good, Refused}
 
@@ -42,9 +43,8 @@ module _ (plan : Layout) where
   ends_read (Err flaw) = (_, refl)
 
   ends : (text : List ℕ) (outcome : Outcome) (whole : List ℕ) (a : Accepted) → EndsAs a (report plan text) → TellsJudged plan text a outcome whole → (told : List ℕ) × (report plan text ≡ Some (outcome, told))
-  ends text outcome whole (Some (Ok script)) (told, same) h =
-      let more : Some (Good, told ++ told_costs plan text script) ≡ Some (outcome, whole) = sym (ap (λ (r : Report). and_more r (told_costs plan text script)) same) ∙ h in
-      let is : Good ≡ outcome = ap outcome_in more in (told, same ∙ ap (λ (o : Outcome). Some (o, told)) is)
+  ends text outcome whole (Some (Ok script)) (told, same) (c, is_plan, is_script, reported, (sources, are_told, more)) =
+      (_, reported ∙ ap (λ (o : Outcome). Some (o, verdict_text c.plan c.script c.bounds)) (ap outcome_in more))
   ends text outcome whole (Some (Err f)) (told, same) h = (told, same ∙ ap (λ (o : Outcome). Some (o, told)) (sym h.0))
   ends text outcome whole None same h = absurd h
 

@@ -1,13 +1,17 @@
 -- What `camac tell` tells of a plan and a script.
-use Rattle.std.specs.Prelude.{◌≡◌, ℕ, List, ◌++◌, Some, None, Result, Ok, Err, flat_map}
+use Rattle.std.specs.Prelude.{◌≡◌, ℕ, List, [], ◌++◌, Some, None, Result, Ok, Err, flat_map}
 use Rattle.camac_lang.specs.Tree.{Script}
 use Rattle.camac_branch.specs.Plan.{Layout}
 use Rattle.camac_tokens.specs.Fault.{Fault as TextFault}
 use Rattle.camac_tokens.specs.Rules.{rule_of}
 use Rattle.camac_text.specs.Parser.{script_of}
+use Rattle.camac_checked.specs.Checked.{CheckedScript}
 use Rattle.camac_rules.specs.Capped.{capped}
 use Rattle.camac_check_costs.specs.Bodies.{costs_with}
 use Rattle.camac_check_costs.specs.Texts.{costs_text}
+use Rattle.camac_response_times.specs.declared.source.Source.{Source}
+use Rattle.camac_response.specs.Checked.{AreTold}
+use Rattle.camac_response.specs.Lines.{unkept_text}
 use Rattle.camac_explain.specs.Explanation.{explanation_of}
 use Rattle.camac_explain.specs.Sentence.{sentence_of}
 use Rattle.camac_explain.specs.declared.finding.Finding.{Finding}
@@ -15,7 +19,9 @@ use Rattle.camac_explain.specs.declared.finding.Finding.TheVariants as finding
 use Rattle.camac_engines.specs.Accepted.{Accepted, accepted}
 use Rattle.camac_engines.specs.Explain.{Explained}
 use Rattle.camac_engines.specs.Refusals.{detail_lines, findings_of, placed_refusal}
-use Rattle.camac_engines.specs.Report.{Report, Reports, report}
+use Rattle.camac_engines.specs.Report.{Report, Reports, report, report_of}
+use Rattle.camac_engines.specs.Response.{unkept_in}
+use Rattle.camac_engines.specs.declared.judging.Judged.TheVariants as judged
 use Rattle.camac_engines.specs.declared.outcome.Outcome.{Outcome}
 use Rattle.camac_engines.specs.declared.outcome.Outcome.TheVariants.{Refused}
 
@@ -44,9 +50,17 @@ TellsRefusals plan text (Err flaw) whole = TellsFault text (finding.Text (rule_o
 abbrev pub IsRefused : (Says : List ℕ → Type 0) → Outcome → List ℕ → Type 0
 IsRefused Says outcome whole = (outcome ≡ Refused) × Says whole
 
--- of an accepted script what `camac check` tells, and then what its bounds consist of; of a refused one each refusal
+-- of a checked script what `camac check` tells, what its bounds consist of, and what it does not do for its look-at-mes
+abbrev pub TellsChecked : CheckedScript → (text : List ℕ) → Outcome → List ℕ → Type 0
+TellsChecked c text outcome whole =
+    (sources : List Source)
+    × AreTold c [] sources
+    × Reports (and_more (report_of (judged.Accepted c)) (told_costs c.plan text c.script ++ unkept_text c.script (unkept_in c sources))) outcome whole
+
+-- of an accepted script all of this; of a refused one each refusal
 abbrev pub TellsJudged : Layout → (text : List ℕ) → Accepted → Outcome → List ℕ → Type 0
-TellsJudged plan text (Some (Ok script)) = Reports (and_more (report plan text) (told_costs plan text script))
+TellsJudged plan text (Some (Ok script)) = λ outcome whole.
+    (c : CheckedScript) × (c.plan ≡ plan) × (c.script ≡ script) × (report plan text ≡ report_of (judged.Accepted c)) × TellsChecked c text outcome whole
 TellsJudged plan text (Some (Err f)) = IsRefused (TellsRefusals plan text (script_of text))
 TellsJudged plan text None = λ outcome whole. ⊥
 

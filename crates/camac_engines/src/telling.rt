@@ -4,10 +4,9 @@ ghost use Rattle.std.specs.Prelude.{◌≡◌, ◌||◌, ◌++◌, IfOk, OnOk, S
 ghost use Rattle.camac_text.specs.Parser.{script_of};
 ghost use Rattle.camac_lines.specs.Verdict.{verdict_text};
 ghost use Rattle.camac_check_costs.specs.Texts.{costs_text};
+ghost use Rattle.camac_response.specs.Lines.{unkept_text};
 ghost use Rattle.camac_engines.specs.Engine.{IsWritten, is_write_fault};
-ghost use Rattle.camac_engines.specs.Report.{Reports};
-ghost use Rattle.camac_engines.specs.Tell.{IsRefused, TellsAll, TellsRefusals, told_costs, told_refusal};
-ghost use Rattle.camac_engines.specs.declared.outcome.Outcome.TheVariants.{Good};
+ghost use Rattle.camac_engines.specs.Tell.{IsRefused, TellsAll, TellsChecked, TellsRefusals, told_refusal};
 ghost use Rattle.camac_word.specs.Watched.{inner_of, has_failed};
 ghost use Rattle.camac_word.specs.Writing.{Writes};
 
@@ -22,11 +21,13 @@ use camac_check_costs::{BodyCosts, costs_of, write_costs};
 use camac_explain::Finding;
 use camac_lang::Script;
 use camac_lines::write_verdict;
+use camac_response::{Unkept, sources_of, unkept_of, write_unkept};
 use camac_word::{Watched, WriteFault};
 use std::alloc::{AllocError, Global};
 use std::io::Write;
 
-/// Writes the bounds of an accepted script and what they consist of, each statement with its place, or each refusal in full.
+/// Writes the bounds of an accepted script, what they consist of, each statement with its place, and what it does not do for its look-at-mes; or
+/// each refusal in full.
 pub fn tell_all<W: Write>(
     alloc: Global,
     plan: &Plan,
@@ -49,11 +50,13 @@ fn tell_bounds<W: Write>(
     checked: &Checked,
     out: &mut Watched<W>,
 ) -> Result<Outcome, ToolFault>
-    ensures tells { IsWritten (Reports (Some (Good, verdict_text checked.now.plan checked.now.script checked.now.bounds ++ told_costs checked.now.plan text.now checked.now.script))) (W.contents (inner_of out.old)) (W.contents (inner_of out.new)) result }
+    ensures tells { IsWritten (TellsChecked checked.now text.now) (W.contents (inner_of out.old)) (W.contents (inner_of out.new)) result }
     ensures failed { has_failed out.new ≡ (has_failed out.old || is_write_fault result) }
 {
     let bodies = costs_of(alloc, checked)?;
-    write_bounds(out, checked, text, &bodies)?;
+    let sources = sources_of(alloc, checked, &[])?;
+    let unkept = unkept_of(alloc, checked, &sources)?;
+    write_bounds(out, checked, text, &bodies, &unkept)?;
     Ok(Outcome::Good)
 }
 
@@ -62,12 +65,27 @@ fn write_bounds<W: Write>(
     checked: &Checked,
     text: &[u8],
     bodies: &[BodyCosts],
+    unkept: &[Unkept],
 ) -> Result<(), WriteFault>
-    ensures text { Writes (W.contents (inner_of out.old)) (W.contents (inner_of out.new)) result (verdict_text checked.now.plan checked.now.script checked.now.bounds ++ costs_text (Some text.now) checked.now.plan checked.now.script bodies.now) }
+    ensures text { Writes (W.contents (inner_of out.old)) (W.contents (inner_of out.new)) result (verdict_text checked.now.plan checked.now.script checked.now.bounds ++ (costs_text (Some text.now) checked.now.plan checked.now.script bodies.now ++ unkept_text checked.now.script unkept.now)) }
     ensures failed { has_failed out.new ≡ (has_failed out.old || is_err result) }
 {
     write_verdict(out, checked)?;
-    write_costs(out, checked, Some(text), bodies)
+    write_more(out, checked, text, bodies, unkept)
+}
+
+fn write_more<W: Write>(
+    out: &mut Watched<W>,
+    checked: &Checked,
+    text: &[u8],
+    bodies: &[BodyCosts],
+    unkept: &[Unkept],
+) -> Result<(), WriteFault>
+    ensures text { Writes (W.contents (inner_of out.old)) (W.contents (inner_of out.new)) result (costs_text (Some text.now) checked.now.plan checked.now.script bodies.now ++ unkept_text checked.now.script unkept.now) }
+    ensures failed { has_failed out.new ≡ (has_failed out.old || is_err result) }
+{
+    write_costs(out, checked, Some(text), bodies)?;
+    write_unkept(out, checked, unkept)
 }
 
 fn tell_refusals<W: Write>(

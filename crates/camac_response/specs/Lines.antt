@@ -68,6 +68,10 @@ abbrev pub unkept_line : Script → Unkept → List ℕ
 unkept_line script u =
     codes "unkept " ++ service_name script u.service ++ codes " line " ++ decimal u.line ++ codes ": " ++ why_text script u.why ++ codes "\n"
 
--- a line for each bit that has a service, from bit 1 to 24, and then one for each thing that is not done
+-- a line for each thing that is not done
+abbrev pub unkept_text : Script → List Unkept → List ℕ
+unkept_text script us = flat_map (unkept_line script) us
+
+-- a line for each bit that has a service, from bit 1 to 24, and then those of what is not done
 abbrev pub responses_text : Script → (within : List Setting) → List Unkept → (twice : List Bool) → List Source → List ℕ
-responses_text script within us twice ts = texts (bit_text script within us twice ts) 1 24 ++ flat_map (unkept_line script) us
+responses_text script within us twice ts = texts (bit_text script within us twice ts) 1 24 ++ unkept_text script us

@@ -17,7 +17,7 @@ pub use camac_response_times::{
     read_settings, response_of, told_for,
 };
 pub use kept::are_kept;
-pub use lines::write_responses;
+pub use lines::{write_responses, write_unkept};
 pub use of_checked::{no_service, sources_of};
 pub use twice::twice_of;
 pub use unkept::{Unkept, Why, unkept_of};

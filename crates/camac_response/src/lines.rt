@@ -1,9 +1,9 @@
 // The lines of `camac response`.
 
 ghost use Rattle.std.specs.Prelude.{◌≡◌, ◌<◌, ◌≤◌, ◌+◌, ◌||◌, ◌++◌, is_err, length, nat_eq};
-ghost use Rattle.std.specs.List.{flat_map, position};
+ghost use Rattle.std.specs.List.{position};
 ghost use Rattle.camac_lines.specs.Texts.{texts};
-ghost use Rattle.camac_response.specs.Lines.{bit_text, cycles_text, limit_text, numbers_text, promised, rate_text, response_line, responses_text, service_text, unkept_line, why_text};
+ghost use Rattle.camac_response.specs.Lines.{bit_text, cycles_text, limit_text, numbers_text, promised, rate_text, response_line, responses_text, service_text, unkept_line, unkept_text, why_text};
 ghost use Rattle.camac_word.specs.Watched.{inner_of, has_failed};
 ghost use Rattle.camac_word.specs.Writing.{Writes};
 
@@ -54,12 +54,13 @@ fn write_services<W: Write>(
     Ok(())
 }
 
-fn write_unkept<W: Write>(
+/// Writes a line for each thing that is unkept. After a write fault a prefix of all was written.
+pub fn write_unkept<W: Write>(
     out: &mut Watched<W>,
     checked: &Checked,
     unkept: &[Unkept],
 ) -> Result<(), WriteFault>
-    ensures text { Writes (W.contents (inner_of out.old)) (W.contents (inner_of out.new)) result (flat_map (unkept_line checked.now.script) unkept.now) }
+    ensures text { Writes (W.contents (inner_of out.old)) (W.contents (inner_of out.new)) result (unkept_text checked.now.script unkept.now) }
     ensures failed { has_failed out.new ≡ (has_failed out.old || is_err result) }
 {
     'found: for one in unkept {

@@ -5,7 +5,7 @@ from typing import TYPE_CHECKING, Any, Dict, List, Optional
 from camac.lsp.documents import Range, Text
 from camac.lsp.refusals import refusals
 from camac.lsp.workspace import Judge, Judged
-from camac.printed import read_explanation, read_responses
+from camac.printed import read_explanation
 from camac.program import advice_on
 
 if TYPE_CHECKING:
@@ -81,7 +81,7 @@ def warned(judged: Judged) -> "List[Warned]":
         return []
     from camac.warn import look_at
 
-    return look_at(judge.file, judged.text.data, verdict.text, read_responses(judged.ask("response").text), judge.program)[1]
+    return look_at(judge.file, judged.text.data, verdict.text, judge.program)[1]
 
 
 def of_warning(it: "Warned", text: Text) -> Diagnostic:

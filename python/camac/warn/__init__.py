@@ -1,14 +1,13 @@
 """Warnings about an accepted script: what is probably not meant. docs/REFUSALS.md has each with an example."""
-from typing import Iterator, List, Optional, Sequence, Set, Tuple
+from typing import Iterator, List, Optional, Set, Tuple
 
 from camac.drive import File
-from camac.printed import read_services
+from camac.printed import read_services, read_unkept
 from camac.program import knows_command, output_of
 from camac.reader import read_script
-from camac.subcommands import response
 from camac.texts import TextFile
 from camac.tree import Loop, Plain, Script
-from camac.values import Harm, Response, Service
+from camac.values import Harm, Service, Unkept
 from camac.warn.codes import Code as Code, Warned as Warned
 from camac.warn.silent import Silent, costs_with_arms
 
@@ -33,19 +32,18 @@ def look(plan: File, script: File, program: Optional[File] = None) -> Tuple[List
     script = script if isinstance(script, TextFile) else TextFile(script)
     is_all = looks_for_all(program)
     told = output_of("tell" if is_all else "check", "--", plan, script, program=program)
-    return look_at(plan, script.text(), told, response(plan, script, program=program) if is_all else [], program)
+    return look_at(plan, script.text(), told, program)
 
 
-def look_at(plan: File, text: bytes, told: str, responses: Sequence[Response], program: Optional[File] = None) -> Tuple[List[Service], List[Warned]]:
-    """What `look` returns of an accepted script that is given as its text, with what `tell`, or `check`, prints of it, and the answers of
-    `response`."""
+def look_at(plan: File, text: bytes, told: str, program: Optional[File] = None) -> Tuple[List[Service], List[Warned]]:
+    """What `look` returns of an accepted script that is given as its text, with what `tell`, or `check`, prints of it."""
     parsed = read_script(text)
     services = read_services(told)
     bodies = costs_with_arms(plan, text, parsed, told, program)
     if not services:
         return [], [Warned(1, Code.NO_SERVICE, "this script has no service, so a run of it makes no cycle")]
     silent = Silent(plan, text, parsed, bodies, program).found()
-    found = [*silent, *_unkept(parsed, responses), *_held_up(parsed, services), *_loose(plan, text, parsed, program)]
+    found = [*silent, *_unkept(parsed, read_unkept(told)), *_held_up(parsed, services), *_loose(plan, text, parsed, program)]
     return services, sorted(found, key=lambda it: (it.line, it.code.value))
 
 
@@ -54,17 +52,17 @@ def looks_for_all(program: Optional[File] = None) -> bool:
     return knows_command("tell", program)
 
 
-def _unkept(script: Script, responses: Sequence[Response]) -> Iterator[Warned]:
+def _unkept(script: Script, unkept: List[Unkept]) -> Iterator[Warned]:
     """What services do to look-at-mes, so that `camac response` has no number. A script that initialises crates alone keeps nothing of it."""
-    if not any(it.unkept for it in responses):
+    if not unkept:
         return
     starting: Set[str] = set()
     # A body calls procedures that end before it, so each is looked at once.
     for it in script.bodies:
         if any(isinstance(one, Plain) and (one.word == "cccz" or one.word == "call" and one.name in starting) for one in it.every):
             starting.add(it.name)
-    if any(it.name not in starting for it in responses):
-        yield from (Warned(it.line, Code.UNKEPT, UNKEPT[it.why].format(it.name, it.other)) for late in responses for it in late.unkept)
+    if any(it.is_service and it.name not in starting for it in script.bodies):
+        yield from (Warned(it.line, Code.UNKEPT, UNKEPT[it.why].format(it.name, it.other)) for it in unkept)
 
 
 def _held_up(script: Script, services: List[Service]) -> Iterator[Warned]:
