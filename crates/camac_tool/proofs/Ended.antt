@@ -1,14 +1,14 @@
 -- How a job ends, by what its engine says of its readers and writers.
 use Rattle.std.proofs.Common.{◌≡◌, ◌⊎◌, ℕ, Bool, true, List, [], Option, None, Some, refl, sym, ap, subst, ◌∙◌, inl, inr, append-nil}
-use Rattle.std.specs.Prelude.{Result, Ok, Err}
+use Rattle.std.specs.Prelude.{false, IfOk, Result, Ok, Err}
 use Rattle.std.specs.Io.KnownBytes.{Appends, Keeps, append_known}
 use Rattle.std.proofs.KnownBytes.{Keeps-refl}
 use Rattle.std.proofs.Math.Bool.{or-false}
 use Rattle.clap.specs.Words.{Text}
 use Rattle.camac_play.proofs.Sending.{sends_nothing}
-use Rattle.camac_play.specs.RunIo.{RunState}
+use Rattle.camac_play.specs.RunIo.{RunState, sent_in}
 use Rattle.camac_play.specs.declared.telling.Telling.{Telling}
-use Rattle.camac_play.specs.declared.telling.Telling.TheVariants.{Listing}
+use Rattle.camac_play.specs.declared.telling.Telling.TheVariants.{Listing, Requests}
 use Rattle.camac_response_times.specs.Setting.{ReadsSettings}
 use Rattle.camac_response_times.specs.declared.setting.Settings.{Settings}
 use Rattle.camac_engines.specs.Engine.{Answers, IsWritten}
@@ -23,9 +23,11 @@ use Rattle.camac_tool.proofs.Runs.{ends_before}
 use Rattle.camac_tool.specs.Apart.{IsApartFrom, Words}
 use Rattle.camac_tool.specs.Devices.{HasBeginning, RunsOnDevices}
 use Rattle.camac_tool.specs.Gathered.{device_of, given_to, held_in}
+use Rattle.camac_tool.specs.Headline.{JudgedKeeps}
 use Rattle.camac_tool.specs.Input.{IsJudgedIn}
-use Rattle.camac_tool.specs.Jobs.{HandsOn, IsGot, IsSettled, OrWriteFault, Replies, Responds, RunTells, RunsTold, Tells, gathers}
+use Rattle.camac_tool.specs.Jobs.{DoesRun, Drives, HandsOn, IsGot, IsSaved, IsSettled, OrWriteFault, Replies, Responds, RunTells, RunsTold, Tells, gathers}
 use Rattle.camac_tool.specs.Run.{Runs, RunsFound, RunsJudged, StaysQuiet}
+use Rattle.camac_tool.specs.Saved.{IsKept}
 use Rattle.camac_tool.specs.Status.{EndsStopped}
 use Rattle.camac_tool.specs.World.{World}
 use Rattle.camac_tool.specs.declared.gathered.Gathered.{Gathered}
@@ -111,9 +113,9 @@ module _ (Replied : (o given : Option (List ℕ)) → Result Done ToolFault → 
   faulted fault replied = (given, inl (subst (λ (x : Option (List ℕ)). Replied x given (Err fault)) same replied), (held, kept))
 
 -- before a run nothing is told
-pub not_begun : (bytes_of : Text → Option (List ℕ)) (finds : Text → Option FileId → Type 0) (w : Words) (t : Telling) (o : Option (List ℕ)) (fault : ToolFault)
-    → HandsOn (RunsTold bytes_of finds w t) o o (Err fault)
-not_begun bytes_of finds w t o fault = (o, inl (inl (Keeps-refl o)), beginning o o (Keeps-refl o))
+pub not_begun : (bytes_of : Text → Option (List ℕ)) (finds : Text → Option FileId → Type 0) (begun : Option (List ℕ)) (w : Words) (saves : Option (List ℕ) → Bool) (o : Option (List ℕ)) (fault : ToolFault)
+    → DoesRun bytes_of finds begun w saves o o (Err fault)
+not_begun bytes_of finds begun w saves o fault = (begun, (o, inl (inl (Keeps-refl o)), beginning o o (Keeps-refl o)), tt)
 
 quiet : (o p : Option (List ℕ)) → Appends o p [] → Keeps o p
 quiet None p h = tt
@@ -130,14 +132,18 @@ settles Ends (Ok outcome) done (inr is) ends = rw is (inr (refl, (Ok (Answered o
 settles Ends (Err fault) done is ends = rw is (inl ends)
 
 -- a run in a world, and one on devices, of the words' inputs
-module _ (bytes_of : Text → Option (List ℕ)) (finds : Text → Option FileId → Type 0) (words : Words) (apart : IsApartFrom finds words)
-    {I : Type 0} (w : World I) (answered : Keeps (bytes_of words.answers) w.answers)
+module _ (bytes_of : Text → Option (List ℕ)) (finds : Text → Option FileId → Type 0) (begun : Option (List ℕ)) (words : Words) (saves : Option (List ℕ) → Bool) (apart : IsApartFrom finds words)
+    {I : Type 0} (w : World I) (empty : w.outputs.events ≡ begun) (answered : Keeps (bytes_of words.answers) w.answers)
     (judged : (w' : World I) (j : Judged) → HasJudged w.left w.plan w'.plan w.script w'.script j → IsJudgedIn bytes_of words.plan words.script j) where
-  module _ (t : Telling) (same : w.gathers ≡ gathers t) where
-    abbrev RunIsTold : (o p : Option (List ℕ)) → Result Done ToolFault → Type 0
-    RunIsTold = RunsTold bytes_of finds words t
+  saved_as : (f g : Option (List ℕ)) (done : Result Done ToolFault) → Keeps f g → IfOk done (λ _. IsKept begun saves g) → IsSaved bytes_of finds begun saves f done
+  saved_as f g (Ok done) kept saved = (g, kept, saved)
+  saved_as f g (Err fault) kept saved = tt
 
-    found_told : (w' : World I) (r : Result Outcome ToolFault) → RunsFound w w' t r → RunTells bytes_of finds words t w.outputs.listing w'.outputs.listing r
+  module _ (t : Telling) (same : w.gathers ≡ gathers t) where
+    abbrev RunIsTold : (f o p : Option (List ℕ)) → Result Done ToolFault → Type 0
+    RunIsTold = RunsTold bytes_of finds begun words t
+
+    found_told : (w' : World I) (r : Result Outcome ToolFault) → RunsFound w w' t r → RunTells bytes_of finds begun words t w'.outputs.events w.outputs.listing w'.outputs.listing r
     found_told w' r found = (
       apart,
       (
@@ -146,39 +152,51 @@ module _ (bytes_of : Text → Option (List ℕ)) (finds : Text → Option FileId
         (
           w.answers,
           w'.answers,
-          w.outputs.events,
-          w'.outputs.events,
           answered,
-          subst (λ (b : Bool). RunsJudged b t found.0 w.answers w'.answers w.outputs w'.outputs r) same found.2,
+          subst (λ x. RunsJudged (gathers t) t found.0 w.answers w'.answers (record { listing = w.outputs.listing; events = x }) w'.outputs r) empty
+              (subst (λ (b : Bool). RunsJudged b t found.0 w.answers w'.answers w.outputs w'.outputs r) same found.2),
         ),
       ),
     )
 
-    run_told : (w' : World I) (r : Result Outcome ToolFault) → Runs w w' t r → RunIsTold w.outputs.listing w'.outputs.listing (done_of r)
-    run_told w' (Ok outcome) h = found_told w' (Ok outcome) h.runs
+    run_told : (w' : World I) (r : Result Outcome ToolFault) → Runs w w' t r → RunIsTold w'.outputs.events w.outputs.listing w'.outputs.listing (done_of r)
+    run_told w' (Ok outcome) h = (
+      found_told w' (Ok outcome) h.runs,
+      (
+        h.headline.0,
+        judged w' h.headline.0 h.headline.1,
+        (w.answers, answered, subst (λ x. JudgedKeeps t h.headline.0 w.answers x w'.outputs.events (Ok outcome)) empty h.headline.2),
+      ),
+    )
     run_told w' (Err Write) h = inr (found_told w' (Err Write) h.runs)
     run_told w' (Err Memory) h = inl (quiet _ _ h.runs.1.listing)
     run_told w' (Err TooLong) h = inl (quiet _ _ h.runs.1.1.listing)
     run_told w' (Err Read) h = by h.runs
       where
-        by : (StaysQuiet w w' ⊎ RunsFound w w' t (Err Read)) → RunIsTold w.outputs.listing w'.outputs.listing (Err Read)
+        by : (StaysQuiet w w' ⊎ RunsFound w w' t (Err Read)) → RunIsTold w'.outputs.events w.outputs.listing w'.outputs.listing (Err Read)
         by (inl still) = inl (quiet _ _ still.1.listing)
         by (inr found) = inr (found_told w' (Err Read) found)
 
-    pub run_settled : (w' : World I) (r : Result Outcome ToolFault) (done : Result Done ToolFault) → Runs w w' t r → IsSettled r done → OrWriteFault (RunIsTold w.outputs.listing w'.outputs.listing) done
-    run_settled w' r done h settled = settles (RunIsTold w.outputs.listing w'.outputs.listing) r done settled (run_told w' r h)
+  pub run_settled : w.gathers ≡ false → (w' : World I) (r : Result Outcome ToolFault) (done : Result Done ToolFault) → Runs w w' Requests r → IsSettled r done
+      → IfOk done (λ _. IsKept begun saves w'.outputs.events) → Drives bytes_of finds begun words saves w.outputs.listing w'.outputs.listing done
+  run_settled same w' r done h settled saved =
+      let f = w'.outputs.events in
+      (f, settles (RunsTold bytes_of finds begun words Requests f w.outputs.listing w'.outputs.listing) r done settled (run_told Requests same w' r h), saved_as f f done (Keeps-refl f) saved)
 
-  pub run_handed : w.gathers ≡ true → (after : RunState → World I) (l e : Option (List ℕ)) (r : Result Outcome ToolFault) (done : Result Done ToolFault) → ((s : RunState) → (after s).outputs.listing ≡ s.listed)
-      → RunsOnDevices w after l e r → IsSettled r done → HandsOn (RunsTold bytes_of finds words Listing) w.outputs.listing l done
-  run_handed same after l e r done is (ran, given, runs, handed) settled = by handed.2
+  pub run_handed : w.gathers ≡ true → (after : RunState → World I) (l e : Option (List ℕ)) (r : Result Outcome ToolFault) (done : Result Done ToolFault) → ((s : RunState) → (after s).outputs ≡ sent_in s)
+      → RunsOnDevices w after l e r → IsSettled r done → IfOk done (λ _. IsKept begun saves e) → DoesRun bytes_of finds begun words saves w.outputs.listing l done
+  run_handed same after l e r done is (ran, given, runs, handed) settled saved = by handed.2
     where
-      told : RunsTold bytes_of finds words Listing w.outputs.listing given.listed (done_of ran)
-      told = subst (λ x. RunsTold bytes_of finds words Listing w.outputs.listing x (done_of ran)) (is given) (run_told Listing same (after given) ran runs)
+      Told : Result Done ToolFault → Type 0
+      Told = RunsTold bytes_of finds begun words Listing given.recorded w.outputs.listing given.listed
 
-      by : (((r ≡ ran) × Keeps given.listed l × Keeps given.recorded e) ⊎ (r ≡ Err Write)) → HandsOn (RunsTold bytes_of finds words Listing) w.outputs.listing l done
+      told : Told (done_of ran)
+      told = subst (λ x. RunsTold bytes_of finds begun words Listing x.events w.outputs.listing x.listing (done_of ran)) (is given) (run_told Listing same (after given) ran runs)
+
+      by : (((r ≡ ran) × Keeps given.listed l × Keeps given.recorded e) ⊎ (r ≡ Err Write)) → DoesRun bytes_of finds begun words saves w.outputs.listing l done
       by (inl all) =
-          (given.listed, settles (RunsTold bytes_of finds words Listing w.outputs.listing given.listed) ran done (subst (λ x. IsSettled x done) all.0 settled) told, is_got given.listed l done all.1)
-      by (inr failed) = rw (subst (λ x. IsSettled x done) failed settled) (given.listed, inr (refl, (done_of ran, told)), handed.0)
+          (given.recorded, (given.listed, settles Told ran done (subst (λ x. IsSettled x done) all.0 settled) told, is_got given.listed l done all.1), saved_as given.recorded e done all.2 saved)
+      by (inr failed) = rw (subst (λ x. IsSettled x done) failed settled) (given.recorded, (given.listed, inr (refl, (done_of ran, told)), handed.0), tt)
 
 -- memory is out before a run
 pub no_run : {I : Type 0} (w : World I) (after : RunState → World I) (s : RunState) → after s ≡ w → RunsOnDevices w after s.listed s.recorded (Err Memory)

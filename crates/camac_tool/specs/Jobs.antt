@@ -30,8 +30,10 @@ use Rattle.camac_tool_words.specs.declared.words.Job.{Job}
 use Rattle.camac_tool_words.specs.declared.words.Job.TheVariants as job
 use Rattle.camac_tool.specs.Apart.{IsApartFrom, Words}
 use Rattle.camac_tool.specs.Devices.{HasBeginning}
+use Rattle.camac_tool.specs.Headline.{JudgedKeeps}
 use Rattle.camac_tool.specs.Input.{IsFoundIn, IsJudgedIn, IsPlanOf, IsTextOf}
 use Rattle.camac_tool.specs.Run.{RunsJudged}
+use Rattle.camac_tool.specs.Saved.{IsKept}
 use Rattle.camac_tool.specs.declared.host.Earlier.TheVariants.{Emptied, Refused}
 use Rattle.camac_tool.specs.declared.host.FileId.{FileId}
 use Rattle.camac_tool.specs.declared.program.Done.{Done}
@@ -112,35 +114,54 @@ module _ (bytes_of : Text → Option (List ℕ)) where
   Replies (question.Response plan script every within) = Responds plan.now script.now (map (λ w. w.now) every.items) (map (λ w. w.now) within.items)
   Replies (question.Events file) = Tells (EventsTell file.now)
 
-  module _ (finds : Text → Option FileId → Type 0) (w : Words) (telling : Telling) where
-    -- what was found of a plan and a script is run on these answers, with some event file, and EVENTS is none of the inputs
-    abbrev pub RunTells : (o p : Option (List ℕ)) → Result Outcome ToolFault → Type 0
-    RunTells o p r =
-        IsApartFrom finds w × ((j : Judged) × IsJudgedIn bytes_of w.plan w.script j
-        × ((u v e f : Option (List ℕ)) × Keeps (bytes_of w.answers) u × RunsJudged (gathers telling) telling j u v (record { listing = o; events = e }) (record { listing = p; events = f }) r))
+  -- the system finds files by their names, and an EVENTS that it makes holds no bytes, where they are known
+  module _ (finds : Text → Option FileId → Type 0) (begun : Option (List ℕ)) where
+    module _ (w : Words) (telling : Telling) where
+      -- What was found of a plan and a script is run on these answers, and records an event file that ends as f. EVENTS is none of the inputs.
+      abbrev pub RunTells : (f o p : Option (List ℕ)) → Result Outcome ToolFault → Type 0
+      RunTells f o p r =
+          IsApartFrom finds w × ((j : Judged) × IsJudgedIn bytes_of w.plan w.script j
+          × ((u v : Option (List ℕ)) × Keeps (bytes_of w.answers) u × RunsJudged (gathers telling) telling j u v (record { listing = o; events = begun }) (record { listing = p; events = f }) r))
 
-    abbrev pub RunsTold : (o p : Option (List ℕ)) → Result Done ToolFault → Type 0
-    RunsTold o p (Ok (Answered outcome)) = RunTells o p (Ok outcome)
-    RunsTold o p (Ok _) = ⊥
-    RunsTold o p (Err fault) = Keeps o p ⊎ RunTells o p (Err fault)
+      -- the headline, of that event file
+      abbrev pub HasHeadline : (f : Option (List ℕ)) → Outcome → Type 0
+      HasHeadline f outcome =
+          (j : Judged) × IsJudgedIn bytes_of w.plan w.script j × ((u : Option (List ℕ)) × Keeps (bytes_of w.answers) u × JudgedKeeps telling j u begun f (Ok outcome))
 
-  -- a live run has its answers from standard input, and empties no file that holds bytes
-  abbrev pub DoesJob : (finds : Text → Option FileId → Type 0) → Job → (o p : Option (List ℕ)) → Result Done ToolFault → Type 0
-  DoesJob finds (job.Plan plan) = HandsOn (Tells (PlanTells plan.now plan_ask.Lines))
-  DoesJob finds (job.Commands plan) = HandsOn (Tells (PlanTells plan.now plan_ask.Commands))
-  DoesJob finds (job.ExplainPlan plan) = HandsOn (Tells (PlanTells plan.now plan_ask.Explain))
-  DoesJob finds (job.ExplainRule code) = ExplainsRule code.now
-  DoesJob finds (job.Check plan script) = HandsOn (Tells (ScriptTells plan.now script.now ask.Check))
-  DoesJob finds (job.Explain plan script) = HandsOn (Tells (ScriptTells plan.now script.now ask.Explain))
-  DoesJob finds (job.ExplainBounds plan script) = HandsOn (Tells (ScriptTells plan.now script.now ask.ExplainBounds))
-  DoesJob finds (job.ExplainAt line column turns plan script) = HandsOn (Tells (ScriptTells plan.now script.now (ask.ExplainAt line column turns.items)))
-  DoesJob finds (job.Bounds plan script) = HandsOn (Tells (ScriptTells plan.now script.now ask.Bounds))
-  DoesJob finds (job.Costs plan script) = HandsOn (Tells (ScriptTells plan.now script.now ask.Costs))
-  DoesJob finds (job.Tell plan script) = HandsOn (Tells (ScriptTells plan.now script.now ask.Tell))
-  DoesJob finds (job.Response plan script every within) =
+      abbrev pub RunsTold : (f o p : Option (List ℕ)) → Result Done ToolFault → Type 0
+      RunsTold f o p (Ok (Answered outcome)) = RunTells f o p (Ok outcome) × HasHeadline f outcome
+      RunsTold f o p (Ok _) = ⊥
+      RunsTold f o p (Err fault) = Keeps o p ⊎ RunTells f o p (Err fault)
+
+    -- at the end without a fault EVENTS holds f, and is on the disk
+    abbrev pub IsSaved : (saves : Option (List ℕ) → Bool) → (f : Option (List ℕ)) → Result Done ToolFault → Type 0
+    IsSaved saves f (Ok done) = (g : Option (List ℕ)) × Keeps f g × IsKept begun saves g
+    IsSaved saves f (Err fault) = Unit {0}
+
+    abbrev pub DoesRun : Words → (saves : Option (List ℕ) → Bool) → (o p : Option (List ℕ)) → Result Done ToolFault → Type 0
+    DoesRun w saves o p r = (f : Option (List ℕ)) × HandsOn (RunsTold w Listing f) o p r × IsSaved saves f r
+
+    abbrev pub Drives : Words → (saves : Option (List ℕ) → Bool) → (o p : Option (List ℕ)) → Result Done ToolFault → Type 0
+    Drives w saves o p r = (f : Option (List ℕ)) × OrWriteFault (RunsTold w Requests f o p) r × IsSaved saves f r
+
+  -- A live run has its answers from standard input, and empties no EVENTS that holds bytes. What is on the disk is known by the words of a run.
+  abbrev pub DoesJob : (finds : Text → Option FileId → Type 0) → (begun : Option (List ℕ)) → (saved : Words → Option (List ℕ) → Bool) → Job
+      → (o p : Option (List ℕ)) → Result Done ToolFault → Type 0
+  DoesJob finds begun saved (job.Plan plan) = HandsOn (Tells (PlanTells plan.now plan_ask.Lines))
+  DoesJob finds begun saved (job.Commands plan) = HandsOn (Tells (PlanTells plan.now plan_ask.Commands))
+  DoesJob finds begun saved (job.ExplainPlan plan) = HandsOn (Tells (PlanTells plan.now plan_ask.Explain))
+  DoesJob finds begun saved (job.ExplainRule code) = ExplainsRule code.now
+  DoesJob finds begun saved (job.Check plan script) = HandsOn (Tells (ScriptTells plan.now script.now ask.Check))
+  DoesJob finds begun saved (job.Explain plan script) = HandsOn (Tells (ScriptTells plan.now script.now ask.Explain))
+  DoesJob finds begun saved (job.ExplainBounds plan script) = HandsOn (Tells (ScriptTells plan.now script.now ask.ExplainBounds))
+  DoesJob finds begun saved (job.ExplainAt line column turns plan script) = HandsOn (Tells (ScriptTells plan.now script.now (ask.ExplainAt line column turns.items)))
+  DoesJob finds begun saved (job.Bounds plan script) = HandsOn (Tells (ScriptTells plan.now script.now ask.Bounds))
+  DoesJob finds begun saved (job.Costs plan script) = HandsOn (Tells (ScriptTells plan.now script.now ask.Costs))
+  DoesJob finds begun saved (job.Tell plan script) = HandsOn (Tells (ScriptTells plan.now script.now ask.Tell))
+  DoesJob finds begun saved (job.Response plan script every within) =
       HandsOn (Responds plan.now script.now (map (λ w. w.now) every.items) (map (λ w. w.now) within.items))
-  DoesJob finds (job.Events file) = HandsOn (Tells (EventsTell file.now))
-  DoesJob finds (job.Run plan script answers events) =
-      HandsOn (RunsTold finds (record { plan = plan.now; script = script.now; answers = answers.now; events = events.now; earlier = Emptied }) Listing)
-  DoesJob finds (job.Drive plan script events) = λ o p. OrWriteFault
-      (RunsTold finds (record { plan = plan.now; script = script.now; answers = codes "@in"; events = events.now; earlier = Refused }) Requests o p)
+  DoesJob finds begun saved (job.Events file) = HandsOn (Tells (EventsTell file.now))
+  DoesJob finds begun saved (job.Run plan script answers events) =
+      let w : Words = record { plan = plan.now; script = script.now; answers = answers.now; events = events.now; earlier = Emptied } in DoesRun finds begun w (saved w)
+  DoesJob finds begun saved (job.Drive plan script events) =
+      let w : Words = record { plan = plan.now; script = script.now; answers = codes "@in"; events = events.now; earlier = Refused } in Drives finds begun w (saved w)

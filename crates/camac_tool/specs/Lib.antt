@@ -3,6 +3,7 @@ pub mod Run
 pub mod Headline
 pub mod Input
 pub mod Apart
+pub mod Saved
 pub mod Jobs
 pub mod Status
 pub mod Gathered

@@ -1,12 +1,13 @@
 // What the program wants of its system: the inputs that words name, and EVENTS.
 
-ghost use Rattle.std.specs.Prelude.{◌≡◌, IfOk, List, ℕ, None, Option, Some, ⊤};
-ghost use Rattle.std.specs.Io.KnownBytes.{Keeps};
-ghost use Rattle.camac_tool.specs.Apart.{IsApartFrom, Opens, words_of};
+ghost use Rattle.std.specs.Prelude.{◌≡◌, Bool, true, IfOk, List, ℕ, None, Option, Some, ⊤};
+ghost use Rattle.std.specs.Io.{WritesAtMost};
+ghost use Rattle.std.specs.Io.KnownBytes.{Keeps, WriteAppends};
+ghost use Rattle.camac_tool.specs.Apart.{IsApartFrom, Opens, Words, words_of};
 ghost use Rattle.camac_tool.specs.declared.host.FileId.{FileId};
 
 use std::io;
-use std::io::{Read, Write};
+use std::io::Read;
 
 /// By what the system knows a file: its device, and its number there.
 #[derive(Clone, Copy, PartialEq, Eq)]
@@ -58,7 +59,7 @@ pub trait Host {
 
     type Input: Read + Drop;
 
-    type Events: Write + Drop;
+    type Events: Drop;
 
     /// Of each word the bytes of the input that it names, where they are known.
     ghost bytes_of: { Self → List ℕ → Option (List ℕ) } = { λ _ _. None };
@@ -68,6 +69,17 @@ pub trait Host {
 
     /// Which file an input reads.
     ghost reads: { Self → Self.Input → FileId → Type 0 } = { λ _ _ _. ⊤ };
+
+    /// What an EVENTS holds, and what it holds when it is made, where the bytes of files are known.
+    ghost holds: { Self.Events → Option (List ℕ) } = { λ _. None };
+
+    ghost begun: { Self → Option (List ℕ) } = { λ _. None };
+
+    /// This EVENTS was made for the words.
+    ghost made: { Self → Words → Self.Events → Bool } = { λ _ _ _. true };
+
+    /// The EVENTS that was made for the words is on its disk, and holds this.
+    ghost saved: { Self → Words → Option (List ℕ) → Bool } = { λ _ _ _. true };
 
     /// Takes the places of standard streams that are closed, for as long as the result lives.
     fn hold_places(&self) -> io::Result<Self::Places>;
@@ -79,10 +91,19 @@ pub trait Host {
 
     /// Opens EVENTS, and empties it. The words' files were compared before.
     fn make(&self, words: &RunWords<'_>) -> io::Result<Self::Events>
-        requires { ∥ IsApartFrom (finds self.now) (words_of words.now) ∥₁ };
+        requires { ∥ IsApartFrom (finds self.now) (words_of words.now) ∥₁ }
+        ensures made { IfOk result (λ events. made self.now (words_of words.now) events ≡ true) }
+        ensures bytes { IfOk result (λ events. holds events ≡ begun self.now) };
+
+    /// Writes bytes to EVENTS, as `write` does.
+    fn put(&self, events: &mut Self::Events, bytes: &[u8]) -> io::Result<usize>
+        ensures made { (w : Words) → made self.now w events.old ≡ true → made self.now w events.new ≡ true }
+        ensures bound { WritesAtMost result bytes.now }
+        ensures bytes { WriteAppends (holds events.old) (holds events.new) result bytes.now };
 
     /// Waits until EVENTS is on its disk, where it is a regular file.
-    fn sync(&self, events: &Self::Events) -> io::Result<()>;
+    fn sync(&self, events: &Self::Events) -> io::Result<()>
+        ensures { IfOk result (λ _. (w : Words) → made self.now w events.now ≡ true → saved self.now w (holds events.now) ≡ true) };
 
     /// The file of a name, if there is one that can be the same as another.
     fn find(&self, name: &str) -> io::Result<Option<FileId>>

@@ -1,12 +1,12 @@
 // The program, from its words to its exit status.
 
-ghost use Rattle.std.specs.Prelude.{◌≡◌, IfOk, map, string_bytes};
+ghost use Rattle.std.specs.Prelude.{◌≡◌, IfOk, List, ℕ, Option, map, string_bytes};
 ghost use Rattle.std.specs.Io.KnownBytes.{Keeps};
-ghost use Rattle.camac_play.specs.declared.telling.Telling.TheVariants.{Listing, Requests};
 ghost use Rattle.clap.specs.Words.{kind_of};
 ghost use Rattle.camac_tool.specs.Apart.{IsApartFrom, words_of};
 ghost use Rattle.camac_tool.specs.Input.{IsInputOf, is_sample};
-ghost use Rattle.camac_tool.specs.Jobs.{DoesJob, EventsTell, ExplainsRule, HandsOn, IsSettled, OrWriteFault, PlanTells, Replies, Responds, RunsTold, ScriptTells, Tells};
+ghost use Rattle.camac_tool.specs.Jobs.{DoesJob, DoesRun, Drives, EventsTell, ExplainsRule, HandsOn, IsSettled, PlanTells, Replies, Responds, ScriptTells, Tells};
+ghost use Rattle.camac_tool.specs.Saved.{IsKept, bytes_in};
 ghost use Rattle.camac_tool.specs.Status.{Ends, EndsAs, EndsJob, EndsMisuse, EndsUsage};
 ghost use Rattle.camac_tool.specs.declared.launch.ArgumentsFault.TheVariants.{Memory, NotText};
 ghost use Rattle.camac_word.specs.Watched.{inner_of};
@@ -18,7 +18,7 @@ use crate::host::{Earlier, Host, RunWords};
 use crate::input::{open, open_plan, source_of};
 use crate::launch::ArgumentsFault;
 use crate::running::engine_drive;
-use crate::target::{NewFile, keep_apart, settle};
+use crate::target::{NewFile, Saving, keep_apart, settle};
 use camac_engines::{
     Ask, Outcome, PlanAsk, Responded, ToolFault, Turns, answer, answer_plan, engine_events,
     engine_explain_rule, engine_response, status,
@@ -30,6 +30,7 @@ use camac_word::Watched;
 use clap::Error;
 use clap::error::ErrorKind;
 use std::io::{Eprint, Print, Write};
+use std::marker::Brand;
 
 /// The status of a usage fault.
 const USAGE: u8 = 2;
@@ -53,7 +54,7 @@ pub fn exit_status<R: Host + Print + Eprint + AllocGlobal, W: Write + Drop>(
     words: &[String],
     out: W,
 ) -> (u8, W)
-    ensures { Ends (R.bytes_of rt.now) (R.finds rt.now) (map string_bytes words.now) (W.contents out) (W.contents result.1) result.0 }
+    ensures { Ends (R.bytes_of rt.now) (R.finds rt.now) (R.begun rt.now) (R.saved rt.now) (map string_bytes words.now) (W.contents out) (W.contents result.1) result.0 }
 {
     let failure = Failure::none();
     let tool = Tool {
@@ -114,7 +115,7 @@ struct Tool<'r, 'f, 'a, R> {
 
 impl<'r, 'f, 'a, R: Host + Print + Eprint + AllocGlobal> Tool<'r, 'f, 'a, R> {
     fn serve<W: Write + Drop>(&self, job: Job<'a>, out: W) -> (u8, W)
-        ensures { EndsJob (R.bytes_of self.now.rt.now) (R.finds self.now.rt.now) job.entry (W.contents out) (W.contents result.1) result.0 }
+        ensures { EndsJob (R.bytes_of self.now.rt.now) (R.finds self.now.rt.now) (R.begun self.now.rt.now) (R.saved self.now.rt.now) job.entry (W.contents out) (W.contents result.1) result.0 }
     {
         let is_swapped = is_swapped(&job);
         let (done, out) = self.do_job(job, Named::new(out, STANDARD_OUTPUT, self.failure));
@@ -125,7 +126,7 @@ impl<'r, 'f, 'a, R: Host + Print + Eprint + AllocGlobal> Tool<'r, 'f, 'a, R> {
     }
 
     fn do_job<W: Write + Drop>(&self, job: Job<'a>, out: W) -> (Result<Done<'a>, ToolFault>, W)
-        ensures { DoesJob (R.bytes_of self.now.rt.now) (R.finds self.now.rt.now) job.entry (W.contents out) (W.contents result.1) result.0 }
+        ensures { DoesJob (R.bytes_of self.now.rt.now) (R.finds self.now.rt.now) (R.begun self.now.rt.now) (R.saved self.now.rt.now) job.entry (W.contents out) (W.contents result.1) result.0 }
     {
         match job {
             Job::Plan(plan) => self.gather(Question::Plan(PlanAsk::Lines, plan), out),
@@ -147,11 +148,11 @@ impl<'r, 'f, 'a, R: Host + Print + Eprint + AllocGlobal> Tool<'r, 'f, 'a, R> {
             Job::Events(file) => self.gather(Question::Events(file), out),
             Job::Run(plan, script, answers, events) => {
                 let words = RunWords::new(plan, script, answers, events, Earlier::Emptied);
-                self.run(words, out)
+                self.run::<Brand, W>(words, out)
             }
             Job::Drive(plan, script, events) => {
                 let words = RunWords::new(plan, script, "@in", events, Earlier::Refused);
-                self.drive(words, out)
+                self.drive::<Brand, W>(words, out)
             }
         }
     }
@@ -298,15 +299,21 @@ impl<'r, 'f, 'a, R: Host + Print + Eprint + AllocGlobal> Tool<'r, 'f, 'a, R> {
         }
     }
 
-    fn run<W: Write + Drop>(&self, words: RunWords<'a>, out: W) -> (Result<Done<'a>, ToolFault>, W)
-        ensures { HandsOn (RunsTold (R.bytes_of self.now.rt.now) (R.finds self.now.rt.now) (words_of words.entry) Listing) (W.contents out) (W.contents result.1) result.0 }
+    fn run<K: Saving, W: Write + Drop>(
+        &self,
+        words: RunWords<'a>,
+        out: W,
+    ) -> (Result<Done<'a>, ToolFault>, W)
+        requires begun { R.begun self.now.rt.now ≡ K.begun }
+        requires saves { (bytes : Option (List ℕ)) → R.saved self.now.rt.now (words_of words) bytes ≡ K.saves bytes }
+        ensures { DoesRun (R.bytes_of self.now.rt.now) (R.finds self.now.rt.now) K.begun (words_of words.entry) K.saves (W.contents out) (W.contents result.1) result.0 }
     {
         let (plan, script, lines) = match self.open_run(&words) {
             Ok(inputs) => inputs,
             Err(fault) => return (Err(fault), out),
         };
         let (answers, events) = (words.answers, words.events);
-        let file = NewFile::named(self.rt, words);
+        let file = NewFile::<'_, R, K>::named(self.rt, words);
         let ran = run_on_devices(
             self.rt.alloc(),
             &mut source_of(plan),
@@ -322,19 +329,21 @@ impl<'r, 'f, 'a, R: Host + Print + Eprint + AllocGlobal> Tool<'r, 'f, 'a, R> {
     }
 
     // A request goes out in one write to a writer that keeps nothing back, and no answer is read ahead of its request.
-    fn drive<W: Write + Drop>(
+    fn drive<K: Saving, W: Write + Drop>(
         &self,
         words: RunWords<'a>,
         out: W,
     ) -> (Result<Done<'a>, ToolFault>, W)
-        ensures { OrWriteFault (RunsTold (R.bytes_of self.now.rt.now) (R.finds self.now.rt.now) (words_of words.entry) Requests (W.contents out) (W.contents result.1)) result.0 }
+        requires begun { R.begun self.now.rt.now ≡ K.begun }
+        requires saves { (bytes : Option (List ℕ)) → R.saved self.now.rt.now (words_of words) bytes ≡ K.saves bytes }
+        ensures { Drives (R.bytes_of self.now.rt.now) (R.finds self.now.rt.now) K.begun (words_of words.entry) K.saves (W.contents out) (W.contents result.1) result.0 }
     {
         let (plan, script, answers) = match self.open_run(&words) {
             Ok(inputs) => inputs,
             Err(fault) => return (Err(fault), out),
         };
         let events = words.events;
-        let file = NewFile::named(self.rt, words);
+        let file = NewFile::<'_, R, K>::named(self.rt, words);
         let mut file = Watched::new(Named::new(file, events, self.failure));
         let mut out = Watched::new(out);
         let outcome = engine_drive(
@@ -473,11 +482,12 @@ fn meant_by(words: &[String]) -> Option<(&'static str, &str)> {
 }
 
 // Of a run that came to its end the event file is waited for.
-fn settled<'a, R: Host>(
+fn settled<'a, R: Host, K: Saving>(
     outcome: Result<Outcome, ToolFault>,
-    events: &Named<'_, '_, NewFile<'_, R>>,
+    events: &Named<'_, '_, NewFile<'_, R, K>>,
 ) -> Result<Done<'a>, ToolFault>
-    ensures { IsSettled outcome result }
+    ensures ended { IsSettled outcome result }
+    ensures saved { IfOk result (λ _. IsKept K.begun K.saves (bytes_in K.begun R.holds events.now.device.file)) }
 {
     let outcome = outcome?;
     settle(events)?;

@@ -8,7 +8,7 @@ ghost use Rattle.camac_tool.specs.Files.{HoldsBytes, IsCharacterDevice, SaysComp
 
 use crate::host::{Earlier, FileId, Host, RunWords};
 use std::fs::{Files, Metadata, OpenFile, OpenOptions};
-use std::io::{Error, ErrorKind, Input as StandardInput, Read};
+use std::io::{Error, ErrorKind, Input as StandardInput, Read, Write};
 use std::os::unix::fs::MetadataExt;
 use std::{fs, io};
 
@@ -59,6 +59,10 @@ impl<R: Files + StandardInput> Host for R {
             file.set_len(0)?;
         }
         Ok(file)
+    }
+
+    fn put(&self, events: &mut R::File, bytes: &[u8]) -> io::Result<usize> {
+        events.write(bytes)
     }
 
     fn sync(&self, events: &R::File) -> io::Result<()> {

@@ -1,7 +1,9 @@
 // The event file of a run. Nothing but an older event file is lost by it, and no run ends well before it is on the disk.
 
-ghost use Rattle.std.specs.Prelude.{◌≡◌, ◌↔◌, false, None, IfErr, IfOk, IsOk, IsOkAnd};
+ghost use Rattle.std.specs.Prelude.{◌≡◌, ◌↔◌, ℕ, Bool, true, false, List, Option, None, IfErr, IfOk, IsOk, IsOkAnd};
+ghost use Rattle.std.specs.Option.{ForSome};
 ghost use Rattle.camac_tool.specs.Apart.{Differs, DiffersFromOutputs, IsApart, IsApartFrom, PlanDiffers, is_same, words_of};
+ghost use Rattle.camac_tool.specs.Saved.{IsKept, bytes_in};
 ghost use Rattle.camac_engines.specs.declared.fault.ToolFault.TheVariants.{Write as write-fault};
 
 use crate::failure::{Failure, Named};
@@ -9,6 +11,7 @@ use crate::host::{FileId, Host, RunWords};
 use camac_engines::ToolFault;
 use std::io;
 use std::io::{Error, Write};
+use std::marker::{Brand, PhantomData};
 
 /// The names under which the system has the files behind standard output and standard error.
 const OUTPUT: &str = "/proc/self/fd/1";
@@ -91,50 +94,73 @@ impl<'a> There<'_, 'a> {
     }
 }
 
+/// For the proof of a run alone: what EVENTS holds when it is made, and what of it is known to be on the disk.
+pub trait Saving {
+    ghost begun: { Option (List ℕ) };
+
+    ghost saves: { Option (List ℕ) → Bool };
+}
+
+impl Saving for Brand {
+    ghost begun = { None };
+
+    ghost saves = { λ _. true };
+}
+
 /// EVENTS, which is opened at the first write to it. That is of the header, when the event file is begun.
 #[derive(Drop)]
-pub struct NewFile<'a, H: Host> {
+pub struct NewFile<'a, H: Host, K: Saving> {
     host: &'a H,
     words: RunWords<'a>,
     file: Option<H::Events>,
+    of: PhantomData<K>,
     ghost apart: { ∥ IsApartFrom (H.finds host.now) (words_of words) ∥₁ },
+    ghost begun: { H.begun host.now ≡ K.begun },
+    ghost saves: { (bytes : Option (List ℕ)) → H.saved host.now (words_of words) bytes ≡ K.saves bytes },
+    ghost made: { ForSome file (λ f. H.made host.now (words_of words) f ≡ true) },
 }
 
-impl<'a, H: Host> NewFile<'a, H> {
-    pub fn named(host: &'a H, words: RunWords<'a>) -> NewFile<'a, H>
-        requires { IsApartFrom (H.finds host.now) (words_of words) }
+impl<'a, H: Host, K: Saving> NewFile<'a, H, K> {
+    pub fn named(host: &'a H, words: RunWords<'a>) -> NewFile<'a, H, K>
+        requires apart { IsApartFrom (H.finds host.now) (words_of words) }
+        requires begun { H.begun host.now ≡ K.begun }
+        requires saves { (bytes : Option (List ℕ)) → H.saved host.now (words_of words) bytes ≡ K.saves bytes }
         ensures { result.file ≡ None }
     {
         NewFile {
             host,
             words,
             file: None,
+            of: PhantomData,
         }
     }
 }
 
-impl<H: Host> Write for NewFile<'_, H> {
+impl<H: Host, K: Saving> Write for NewFile<'_, H, K> {
+    ghost contents = { λ n. bytes_in K.begun H.holds n.file };
+
     fn write(&mut self, buf: &[u8]) -> io::Result<usize> {
         if let Some(file) = &mut self.file {
-            return file.write(buf);
+            return self.host.put(file, buf);
         }
         let mut file = self.host.make(&self.words)?;
-        let written = file.write(buf);
+        let written = self.host.put(&mut file, buf);
         self.file = Some(file);
         written
     }
 
+    // Nothing is held back.
     fn flush(&mut self) -> io::Result<()> {
-        match &mut self.file {
-            Some(file) => file.flush(),
-            None => Ok(()),
-        }
+        Ok(())
     }
 }
 
 /// Waits until EVENTS is on its disk, where it was opened.
-pub fn settle<H: Host>(events: &Named<'_, '_, NewFile<'_, H>>) -> Result<(), ToolFault>
-    ensures { IfErr result (λ fault. fault ≡ write-fault) }
+pub fn settle<H: Host, K: Saving>(
+    events: &Named<'_, '_, NewFile<'_, H, K>>,
+) -> Result<(), ToolFault>
+    ensures saved { IfOk result (λ _. IsKept K.begun K.saves (bytes_in K.begun H.holds events.now.device.file)) }
+    ensures fault { IfErr result (λ fault. fault ≡ write-fault) }
 {
     let Some(file) = &events.device.file else {
         return Ok(());
