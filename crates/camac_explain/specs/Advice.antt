@@ -1,9 +1,6 @@
 -- What is told of each rule: why it is there, and what to do where it is broken. The texts stand with its code in src/pages.rt.
 use Rattle.std.specs.Prelude.{ℕ, ◌-◌, ◌&&◌, ◌||◌, Bool, false, List, [], ◌∷◌, map, nat_eq, nat_lt, nat_le, if◌then◌else◌}
 use Rattle.std.specs.Str.{bytes_eq}
-use Rattle.camac_plan.specs.declared.fault.PlanRule.{PlanRule}
-use Rattle.camac_tokens.specs.declared.fault.TextRule.{TextRule}
-use Rattle.camac_names.specs.declared.fault.LinkRule.{LinkRule}
 use Rattle.camac_rules.specs.declared.rule.CheckRule.{CheckRule}
 use Rattle.camac_rules.specs.declared.rule.CheckRule.TheVariants as check
 use Rattle.camac_func.specs.declared.code.FunctionClass.TheVariants.{Read, Write}
@@ -14,10 +11,9 @@ use Rattle.camac_rules.specs.declared.case.Case.TheVariants.{Direction, Operatio
 use Rattle.camac_rules.specs.declared.case.Numbers.{Numbers}
 use Rattle.camac_rules.specs.declared.case.Operator.TheVariants.{Sub}
 use Rattle.camac_lines.specs.Codes.{answer_code, check_code, event_code, link_code, plan_code, text_code}
-use Rattle.camac_answer.specs.declared.fault.AnswerRule.{AnswerRule}
-use Rattle.camac_event.specs.declared.fault.EventRule.{EventRule}
 use Rattle.camac_explain.specs.Warning.{warning_code}
-use Rattle.camac_explain.specs.declared.rule.Warning.{Warning}
+use Rattle.camac_explain.specs.declared.rule.Rule.{Rule}
+use Rattle.camac_explain.specs.declared.rule.Rule.TheVariants as of
 use Rattle.camac_explain.specs.declared.pages.TheConstants.{ANY_RIGHT, ANY_SIDE, ANY_VALUE, ANY_WORD, DIFFERENCE, FEWER_CYCLES, FEWER_EACH, FEWER_STEPS, FEWER_WORDS, MORE_CYCLES, MORE_STEPS, MORE_TURNS, MORE_WORDS, MOST_TURNS, MOVES_NONE, OF_ANSWERS, OF_CHECKER, OF_EVENTS, OF_LINKS, OF_PLANS, OF_TEXTS, OF_WARNINGS, READS, RESULT, TWO_LOOPS, VALUE, WORD, WRITES}
 
 pub record Told : Type 0 where
@@ -36,24 +32,6 @@ abbrev pub told_in : List (Text × Text × Text) → (code : List ℕ) → Told
 told_in [] code = told [] []
 told_in (row ∷ rows) code = if bytes_eq row.0.now code then told row.1.now row.2.now else told_in rows code
 
-unfoldable pub plan_told : PlanRule → Told
-plan_told rule = told_in OF_PLANS (plan_code rule).0
-
-unfoldable pub text_told : TextRule → Told
-text_told rule = told_in OF_TEXTS (text_code rule).0
-
-unfoldable pub link_told : LinkRule → Told
-link_told rule = told_in OF_LINKS (link_code rule).0
-
-unfoldable pub answer_told : AnswerRule → Told
-answer_told rule = told_in OF_ANSWERS (answer_code rule).0
-
-unfoldable pub event_told : EventRule → Told
-event_told rule = told_in OF_EVENTS (event_code rule).0
-
-unfoldable pub warning_told : Warning → Told
-warning_told warning = told_in OF_WARNINGS (warning_code warning).0
-
 -- why a rule of the checker is there, and each way to mend what breaks it: what that is for, and what to do
 pub record Page : Type 0 where
   pub why : List ℕ
@@ -68,6 +46,20 @@ page_in (row ∷ rows) code = if bytes_eq row.0.now code then page row.1 row.2.n
 
 unfoldable pub check_page : CheckRule → Page
 check_page rule = page_in OF_CHECKER (check_code rule).0
+
+abbrev pub first_fix : List (List ℕ × List ℕ) → List ℕ
+first_fix [] = []
+first_fix (fix ∷ fixes) = fix.1
+
+-- of a rule: of one of the checker the first way
+unfoldable pub rule_told : Rule → Told
+rule_told (of.Plan rule) = told_in OF_PLANS (plan_code rule).0
+rule_told (of.Text rule) = told_in OF_TEXTS (text_code rule).0
+rule_told (of.Link rule) = told_in OF_LINKS (link_code rule).0
+rule_told (of.Check rule) = told (check_page rule).why (first_fix (check_page rule).fixes)
+rule_told (of.Answer rule) = told_in OF_ANSWERS (answer_code rule).0
+rule_told (of.Event rule) = told_in OF_EVENTS (event_code rule).0
+rule_told (of.Warning warning) = told_in OF_WARNINGS (warning_code warning).0
 
 -- several numbers may stand there
 abbrev pub is_open : Numbers → Bool
@@ -104,10 +96,6 @@ is_any case = false
 abbrev pub is_within : (most : ℕ) → Case → Bool
 is_within most (Budget body needed allowed) = nat_le needed most
 is_within most case = false
-
-abbrev pub first_fix : List (List ℕ × List ℕ) → List ℕ
-first_fix [] = []
-first_fix (fix ∷ fixes) = fix.1
 
 -- what to do in this case; a plan's buffer has at most 4096 words
 abbrev pub check_fix : CheckRule → Case → List ℕ

@@ -6,16 +6,17 @@ use Rattle.camac_plan.specs.declared.fault.PlanCase.{PlanCase}
 use Rattle.camac_plan.specs.declared.fault.PlanRule.{PlanRule}
 use Rattle.camac_explain_plan.specs.Sentence.{IsPlanSentence}
 use Rattle.camac_explain_plan.specs.Told.{plan_hint}
-use Rattle.camac_explain.specs.Advice.{Told, plan_told, text_told, link_told, check_told}
+use Rattle.camac_explain.specs.Advice.{Told, check_told, rule_told}
 use Rattle.camac_explain.specs.Finding.{refusal_of}
 use Rattle.camac_explain.specs.Source.{shown_byte, source_of}
 use Rattle.camac_explain.specs.declared.finding.Finding.{Finding}
 use Rattle.camac_explain.specs.declared.finding.Finding.TheVariants.{Plan, Text, Link, Check}
+use Rattle.camac_explain.specs.declared.rule.Rule.TheVariants as of
 
 abbrev pub told_of : Finding → Told
-told_of (Plan rule) = plan_told rule
-told_of (Text rule spot) = text_told rule
-told_of (Link rule spot case) = link_told rule
+told_of (Plan rule) = rule_told (of.Plan rule)
+told_of (Text rule spot) = rule_told (of.Text rule)
+told_of (Link rule spot case) = rule_told (of.Link rule)
 told_of (Check rule spot case) = check_told rule case
 
 abbrev pub line_of : (label text : List ℕ) → List ℕ
@@ -49,4 +50,4 @@ explanation_of text f sentence = text_explanation text f sentence None
 -- of a refused plan, by its rule in this case
 abbrev pub IsPlanExplanation : (text : List ℕ) → PlanRule → PlanCase → List ℕ → Type 0
 IsPlanExplanation text rule case bytes =
-    (sentence : Option (List ℕ)) × IsPlanSentence text case sentence × (bytes ≡ explanation [] sentence (plan_hint text case) (plan_told rule) (plan_code rule).0)
+    (sentence : Option (List ℕ)) × IsPlanSentence text case sentence × (bytes ≡ explanation [] sentence (plan_hint text case) (rule_told (of.Plan rule)) (plan_code rule).0)

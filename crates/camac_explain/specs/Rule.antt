@@ -3,7 +3,7 @@ use Rattle.std.specs.Prelude.{◌≡◌, ℕ, true, false, List, ◌++◌, Optio
 use Rattle.std.specs.List.{flat_map}
 use Rattle.std.specs.Str.{str_eq_ignore_ascii_case}
 use Rattle.camac_lines.specs.Codes.{plan_code, text_code, link_code, check_code, answer_code, event_code}
-use Rattle.camac_explain.specs.Advice.{answer_told, check_page, event_told, link_told, plan_told, text_told, warning_told}
+use Rattle.camac_explain.specs.Advice.{check_page, rule_told}
 use Rattle.camac_explain.specs.Explanation.{line_of}
 use Rattle.camac_explain.specs.Warning.{warning_code}
 use Rattle.camac_explain.specs.declared.rule.Rule.{Rule}
@@ -26,27 +26,13 @@ Names {R} code_of code None = (rule : R) → str_eq_ignore_ascii_case (code_of r
 abbrev pub IsRuleOf : List ℕ → Option Rule → Type 0
 IsRuleOf code found = Names rule_code code found
 
-abbrev pub why_of : Rule → List ℕ
-why_of (Plan rule) = (plan_told rule).why
-why_of (Text rule) = (text_told rule).why
-why_of (Link rule) = (link_told rule).why
-why_of (Check rule) = (check_page rule).why
-why_of (Answer rule) = (answer_told rule).why
-why_of (Event rule) = (event_told rule).why
-why_of (Warning warning) = (warning_told warning).why
-
 -- a way to mend, behind what it is for
 abbrev pub fix_line : List ℕ × List ℕ → List ℕ
 fix_line fix = codes "Fix" ++ line_of (fix.0 ++ codes ": ") fix.1
 
 abbrev pub fixes_of : Rule → List ℕ
-fixes_of (Plan rule) = line_of (codes "Fix: ") (plan_told rule).fix
-fixes_of (Text rule) = line_of (codes "Fix: ") (text_told rule).fix
-fixes_of (Link rule) = line_of (codes "Fix: ") (link_told rule).fix
 fixes_of (Check rule) = flat_map fix_line (check_page rule).fixes
-fixes_of (Answer rule) = line_of (codes "Fix: ") (answer_told rule).fix
-fixes_of (Event rule) = line_of (codes "Fix: ") (event_told rule).fix
-fixes_of (Warning warning) = line_of (codes "Fix: ") (warning_told warning).fix
+fixes_of rule = line_of (codes "Fix: ") (rule_told rule).fix
 
 -- something was put at the end
 abbrev pub Grows : (old new : List ℕ) → Type 0
@@ -58,7 +44,7 @@ IsRuleText rule bytes =
     (example : List ℕ)
     × (bytes
     ≡ line_of ((rule_code rule).0 ++ codes ": ") (rule_code rule).1
-    ++ line_of (codes "Why: ") (why_of rule)
+    ++ line_of (codes "Why: ") (rule_told rule).why
     ++ fixes_of rule
     ++ example
     ++ line_of (codes "More: docs/REFUSALS.md, ") (rule_code rule).0)

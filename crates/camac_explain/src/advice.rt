@@ -1,18 +1,13 @@
 // Why each rule is there, and what to do where it is broken.
 
 ghost use Rattle.std.specs.Prelude.{◌≡◌, map};
-ghost use Rattle.camac_explain.specs.Advice.{answer_told, check_fix, check_page, check_told, event_told, has_room, is_any, is_difference, is_forgotten, is_right_forgotten, is_side_forgotten, is_within, link_told, plan_told, text_told, warning_told};
+ghost use Rattle.camac_explain.specs.Advice.{check_fix, check_page, check_told, has_room, is_any, is_difference, is_forgotten, is_right_forgotten, is_side_forgotten, is_within, rule_told};
 
-use crate::pages::{self, Fix};
-use crate::rule::Warning;
-use camac_answer::AnswerRule;
-use camac_event::EventRule;
+use crate::pages::{self, Fix, Row};
+use crate::rule::Rule;
 use camac_func::FunctionClass;
 use camac_lang::limits;
-use camac_names::LinkRule;
-use camac_plan::PlanRule;
 use camac_rules::{Case, CheckRule, Numbers, Operator};
-use camac_text::TextRule;
 
 // The greatest number of words that a plan's buffer holds.
 const BUFFER: u32 = 4096;
@@ -26,63 +21,32 @@ pub struct Advice {
     pub fix: &'static str,
 }
 
-/// What is told of a rule of plans.
-#[tactic(auto, unfolding(crate::specs::Advice::plan_told))]
-pub fn plan_advice(rule: PlanRule) -> Advice
-    ensures why { result.why.now ≡ (plan_told rule).why }
-    ensures fix { result.fix.now ≡ (plan_told rule).fix }
+/// What is told of a rule: of one of the checker the first way to mend.
+#[tactic(auto, unfolding(crate::specs::Advice::check_page, crate::specs::Advice::rule_told))]
+pub fn rule_advice(rule: Rule) -> Advice
+    ensures why { result.why.now ≡ (rule_told rule).why }
+    ensures fix { result.fix.now ≡ (rule_told rule).fix }
 {
-    let (_, why, fix) = pages::OF_PLANS[rule as usize];
-    Advice { why, fix }
+    match rule {
+        Rule::Plan(rule) => of_row(pages::OF_PLANS[rule as usize]),
+        Rule::Text(rule) => of_row(pages::OF_TEXTS[rule as usize]),
+        Rule::Link(rule) => of_row(pages::OF_LINKS[rule as usize]),
+        Rule::Check(rule) => {
+            let (_, why, fixes) = pages::OF_CHECKER[rule as usize];
+            let (_, fix) = fixes[0];
+            Advice { why, fix }
+        }
+        Rule::Answer(rule) => of_row(pages::OF_ANSWERS[rule as usize]),
+        Rule::Event(rule) => of_row(pages::OF_EVENTS[rule as usize]),
+        Rule::Warning(warning) => of_row(pages::OF_WARNINGS[warning as usize]),
+    }
 }
 
-/// What is told of a rule of a script's text.
-#[tactic(auto, unfolding(crate::specs::Advice::text_told))]
-pub fn text_advice(rule: TextRule) -> Advice
-    ensures why { result.why.now ≡ (text_told rule).why }
-    ensures fix { result.fix.now ≡ (text_told rule).fix }
+fn of_row(row: Row) -> Advice
+    ensures why { result.why.now ≡ row.entry.1.now }
+    ensures fix { result.fix.now ≡ row.entry.2.now }
 {
-    let (_, why, fix) = pages::OF_TEXTS[rule as usize];
-    Advice { why, fix }
-}
-
-/// What is told of a rule of linking.
-#[tactic(auto, unfolding(crate::specs::Advice::link_told))]
-pub fn link_advice(rule: LinkRule) -> Advice
-    ensures why { result.why.now ≡ (link_told rule).why }
-    ensures fix { result.fix.now ≡ (link_told rule).fix }
-{
-    let (_, why, fix) = pages::OF_LINKS[rule as usize];
-    Advice { why, fix }
-}
-
-/// What is told of a rule of answers.
-#[tactic(auto, unfolding(crate::specs::Advice::answer_told))]
-pub fn answer_advice(rule: AnswerRule) -> Advice
-    ensures why { result.why.now ≡ (answer_told rule).why }
-    ensures fix { result.fix.now ≡ (answer_told rule).fix }
-{
-    let (_, why, fix) = pages::OF_ANSWERS[rule as usize];
-    Advice { why, fix }
-}
-
-/// What is told of a rule of event files.
-#[tactic(auto, unfolding(crate::specs::Advice::event_told))]
-pub fn event_advice(rule: EventRule) -> Advice
-    ensures why { result.why.now ≡ (event_told rule).why }
-    ensures fix { result.fix.now ≡ (event_told rule).fix }
-{
-    let (_, why, fix) = pages::OF_EVENTS[rule as usize];
-    Advice { why, fix }
-}
-
-/// What is told of a warning.
-#[tactic(auto, unfolding(crate::specs::Advice::warning_told))]
-pub fn warning_advice(warning: Warning) -> Advice
-    ensures why { result.why.now ≡ (warning_told warning).why }
-    ensures fix { result.fix.now ≡ (warning_told warning).fix }
-{
-    let (_, why, fix) = pages::OF_WARNINGS[warning as usize];
+    let (_, why, fix) = row;
     Advice { why, fix }
 }
 

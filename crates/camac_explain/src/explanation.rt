@@ -5,8 +5,9 @@ ghost use Rattle.camac_explain.specs.Advice.{told};
 ghost use Rattle.camac_explain.specs.Explanation.{IsPlanExplanation, advice_text, closing, explanation_of, line_of, sentence_line, text_explanation, told_of};
 ghost use Rattle.camac_explain.specs.Source.{source_of};
 
-use crate::advice::{Advice, check_advice, link_advice, plan_advice, text_advice};
+use crate::advice::{Advice, check_advice, rule_advice};
 use crate::finding::Finding;
+use crate::rule::Rule;
 use crate::source::{push_shown, push_source};
 use camac_explain_plan::{plan_hint, plan_sentence};
 use camac_lines::Refusal;
@@ -29,7 +30,7 @@ pub fn explain_plan(
     push_closing(
         &mut lines,
         plan_hint(text, case),
-        plan_advice(rule),
+        rule_advice(Rule::Plan(rule)),
         code.name,
     )?;
     Ok(lines)
@@ -80,9 +81,9 @@ fn advice_of(finding: Finding) -> Advice
     ensures fix { result.fix.now ≡ (told_of finding).fix }
 {
     match finding {
-        Finding::Plan(rule) => plan_advice(rule),
-        Finding::Text { rule, .. } => text_advice(rule),
-        Finding::Link { rule, .. } => link_advice(rule),
+        Finding::Plan(rule) => rule_advice(Rule::Plan(rule)),
+        Finding::Text { rule, .. } => rule_advice(Rule::Text(rule)),
+        Finding::Link { rule, .. } => rule_advice(Rule::Link(rule)),
         Finding::Check { rule, case, .. } => check_advice(rule, case),
     }
 }

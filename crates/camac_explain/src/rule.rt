@@ -4,13 +4,11 @@ ghost use Rattle.std.specs.Prelude.{◌≡◌, ◌++◌, IfOk, OnOk, codes, map}
 ghost use Rattle.std.specs.List.{flat_map};
 ghost use Rattle.std.specs.Str.{str_eq_ignore_ascii_case};
 ghost use Rattle.camac_explain.specs.Explanation.{line_of};
-ghost use Rattle.camac_explain.specs.Rule.{Grows, IsRuleOf, IsRuleText, Names, fix_line, fixes_of, rule_code, why_of};
+ghost use Rattle.camac_explain.specs.Rule.{Grows, IsRuleOf, IsRuleText, Names, fix_line, fixes_of, rule_code};
 ghost use Rattle.camac_explain.specs.Warning.{warning_code};
 ghost use Rattle.camac_lines.specs.Codes.{answer_code, check_code, event_code, link_code, plan_code, text_code};
 
-use crate::advice::{
-    answer_advice, check_page, event_advice, link_advice, plan_advice, text_advice, warning_advice,
-};
+use crate::advice::{check_page, rule_advice};
 use crate::example::{check_example, link_example, plan_example, text_example};
 use crate::pages::Fix;
 use camac_answer::AnswerRule;
@@ -268,7 +266,7 @@ pub fn explain_rule(alloc: Global, rule: Rule) -> Result<Vec<u8>, AllocError>
     let code = rule.code();
     let mut lines = Vec::new(alloc);
     push_line(&mut lines, code.name, ": ", code.meaning)?;
-    push_line(&mut lines, "Why", ": ", why_of(rule))?;
+    push_line(&mut lines, "Why", ": ", rule_advice(rule).why)?;
     push_fixes(&mut lines, rule)?;
     push_example(&mut lines, rule)?;
     push_line(&mut lines, "More", ": docs/REFUSALS.md, ", code.name)?;
@@ -285,31 +283,12 @@ fn push_line(lines: &mut Vec<u8>, label: &str, after: &str, text: &str) -> Resul
     Ok(())
 }
 
-fn why_of(rule: Rule) -> &'static str
-    ensures { result.now ≡ why_of rule }
-{
-    match rule {
-        Rule::Plan(rule) => plan_advice(rule).why,
-        Rule::Text(rule) => text_advice(rule).why,
-        Rule::Link(rule) => link_advice(rule).why,
-        Rule::Check(rule) => check_page(rule).0,
-        Rule::Answer(rule) => answer_advice(rule).why,
-        Rule::Event(rule) => event_advice(rule).why,
-        Rule::Warning(warning) => warning_advice(warning).why,
-    }
-}
-
 fn push_fixes(lines: &mut Vec<u8>, rule: Rule) -> Result<(), AllocError>
     ensures { OnOk result (lines.new.items ≡ lines.old.items ++ fixes_of rule) }
 {
     match rule {
-        Rule::Plan(rule) => push_line(lines, "Fix", ": ", plan_advice(rule).fix),
-        Rule::Text(rule) => push_line(lines, "Fix", ": ", text_advice(rule).fix),
-        Rule::Link(rule) => push_line(lines, "Fix", ": ", link_advice(rule).fix),
         Rule::Check(rule) => push_each(lines, check_page(rule).1),
-        Rule::Answer(rule) => push_line(lines, "Fix", ": ", answer_advice(rule).fix),
-        Rule::Event(rule) => push_line(lines, "Fix", ": ", event_advice(rule).fix),
-        Rule::Warning(warning) => push_line(lines, "Fix", ": ", warning_advice(warning).fix),
+        _ => push_line(lines, "Fix", ": ", rule_advice(rule).fix),
     }
 }
 

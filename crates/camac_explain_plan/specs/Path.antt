@@ -1,5 +1,5 @@
 -- The way to a table or a key: types by their names, crates and stations by their numbers; else by their places in the text, as commands are.
-use Rattle.std.specs.Prelude.{ℕ, ◌+◌, ◌^◌, ◌-◌, min, Bool, true, false, ◌==◌, List, [], ◌∷◌, ◌++◌, Option, Some, None, codes, decimal, option_and_then, if◌then◌else◌}
+use Rattle.std.specs.Prelude.{ℕ, ◌+◌, ◌^◌, ◌-◌, min, Bool, true, false, List, [], ◌++◌, Option, Some, None, codes, decimal, option_and_then, option_map, slice_get, if◌then◌else◌}
 use Rattle.std.specs.Fmt.{signed_decimal}
 use Rattle.toml.specs.Data.{Data, string, integer, Members}
 use Rattle.camac_lines.specs.Words.{quoted}
@@ -9,20 +9,10 @@ use Rattle.camac_plan.specs.declared.fault.PlanTable.TheVariants.{Top, ModuleTyp
 use Rattle.camac_plan.specs.declared.key.PlanKey.{PlanKey}
 use Rattle.camac_plan.specs.declared.key.PlanKey.TheVariants as key
 use Rattle.camac_explain_plan.specs.Table.{value_in}
+use Rattle.camac_explain_plan.specs.declared.path.TheConstants.{ORDINALS}
 
 abbrev pub ordinal : (place : ℕ) → Option (List ℕ)
-ordinal place =
-    if place == 0 then Some (codes "first")
-    else if place == 1 then Some (codes "second")
-    else if place == 2 then Some (codes "third")
-    else if place == 3 then Some (codes "fourth")
-    else if place == 4 then Some (codes "fifth")
-    else if place == 5 then Some (codes "sixth")
-    else if place == 6 then Some (codes "seventh")
-    else if place == 7 then Some (codes "eighth")
-    else if place == 8 then Some (codes "ninth")
-    else if place == 9 then Some (codes "tenth")
-    else None
+ordinal place = option_map (λ o. o.now) (slice_get ORDINALS place)
 
 -- from 1
 abbrev pub place_from_one : ℕ → ℕ

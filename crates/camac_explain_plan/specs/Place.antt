@@ -1,8 +1,10 @@
 -- A place in the text of a plan, and what is to be known of a text that is no TOML.
-use Rattle.std.specs.Prelude.{ℕ, ◌+◌, ◌-◌, Bool, true, false, ◌&&◌, ◌||◌, ◌==◌, not, List, [], ◌∷◌, ◌++◌, Option, Some, None, codes, count_by, decimal, drop, length, nat_eq, nat_le, nat_lt, take, take_while, if◌then◌else◌}
+use Rattle.std.specs.Prelude.{ℕ, ◌+◌, Bool, true, false, ◌&&◌, ◌||◌, ◌==◌, not, List, [], ◌∷◌, Option, Some, None, codes, count_by, decimal, drop, length, nat_eq, nat_le, nat_lt, take, take_while, if◌then◌else◌}
 use Rattle.std.specs.Char.{is_ascii_alphanumeric, is_ascii_whitespace}
-use Rattle.std.specs.List.{concat, starts_with}
+use Rattle.std.specs.List.{starts_with}
 use Rattle.std.specs.Str.{bytes_eq}
+use Rattle.camac_sentence.specs.Filled.{filled}
+use Rattle.camac_explain_plan.specs.declared.texts.TheConstants as text
 
 abbrev pub is_line_feed : ℕ → Bool
 is_line_feed b = b == 10
@@ -27,8 +29,7 @@ abbrev pub column_behind : List ℕ → ℕ
 column_behind before = count_by begins_character (drop (last_begin before) before) + 1
 
 abbrev pub place_text : (before message : List ℕ) → List ℕ
-place_text before message =
-    concat (codes "Line " ∷ decimal (line_behind before) ∷ codes ", column " ∷ decimal (column_behind before) ∷ codes ": " ∷ message ∷ codes "." ∷ [])
+place_text before message = filled text.PLACE.now (decimal (line_behind before) ∷ decimal (column_behind before) ∷ message ∷ [])
 
 -- a text from its first word on, behind white space and comments, in one of which it may begin
 abbrev pub from_word : (in_comment : Bool) → List ℕ → List ℕ
@@ -55,12 +56,6 @@ is_single_bracket (b ∷ c ∷ bs) = (b == 91) && not (c == 91)
 abbrev pub is_table_heading : (text : List ℕ) → (at : ℕ) → Bool
 is_table_heading text at = nat_lt at (length text) && is_single_bracket (drop (last_begin (take at text)) text)
 
-abbrev pub double_brackets : List ℕ
-double_brackets = codes "Write crates, stations and types in double brackets: `[[crate]]`, `[[crate.station]]`, `[[type]]`."
-
-abbrev pub range_hint : List ℕ
-range_hint = codes "A range is written as `a = 0, to = 11`."
-
 -- a curly quote in UTF-8
 abbrev pub begins_quote : List ℕ → Bool
 begins_quote (a ∷ b ∷ c ∷ rest) = (a == 226) && (b == 128) && nat_le 152 c && nat_le c 157
@@ -74,13 +69,13 @@ begins_range _ = false
 -- by what stands where a text stops
 abbrev pub hint_at : (rest : List ℕ) → Option (List ℕ)
 hint_at rest =
-    if starts_with nat_eq rest (codes ":") then Some (codes "Write `=` between a key and its value.")
-    else if begins_quote rest then Some (codes "Curly quotes are none: write `\"`.")
-    else if begins_range rest then Some range_hint
+    if starts_with nat_eq rest (codes ":") then Some text.EQUALS_SIGN.now
+    else if begins_quote rest then Some text.CURLY_QUOTES.now
+    else if begins_range rest then Some text.RANGE.now
     else None
 
-abbrev pub hint_of_text : (text : List ℕ) → (at : ℕ) → Option (List ℕ)
-hint_of_text text at =
-    if begins_like_a_script text then Some (codes "This begins like a script: PLAN comes first, then SCRIPT.")
-    else if is_table_heading text at then Some double_brackets
-    else hint_at (drop at text)
+abbrev pub hint_of_text : (bytes : List ℕ) → (at : ℕ) → Option (List ℕ)
+hint_of_text bytes at =
+    if begins_like_a_script bytes then Some text.SCRIPT_FIRST.now
+    else if is_table_heading bytes at then Some text.DOUBLE_BRACKETS.now
+    else hint_at (drop at bytes)

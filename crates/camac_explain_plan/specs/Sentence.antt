@@ -1,5 +1,5 @@
 -- The sentence of a refused plan: what its rule knew, over the text and the table that it says as TOML.
-use Rattle.std.specs.Prelude.{◌≡◌, ℕ, List, [], ◌∷◌, ◌++◌, Option, Some, None, codes, option_and_then, option_map, take, if◌then◌else◌}
+use Rattle.std.specs.Prelude.{◌≡◌, ℕ, List, ◌++◌, Option, Some, None, codes, option_and_then, option_map, take, if◌then◌else◌}
 use Rattle.std.specs.Str.{is_utf8}
 use Rattle.toml.specs.Data.{Data, Members}
 use Rattle.toml.specs.Parse.{parse_document}
@@ -12,6 +12,7 @@ use Rattle.camac_explain_plan.specs.Path.{way_to}
 use Rattle.camac_explain_plan.specs.Place.{place_text}
 use Rattle.camac_explain_plan.specs.Table.{value_in}
 use Rattle.camac_explain_plan.specs.Told.{case_text}
+use Rattle.camac_explain_plan.specs.declared.texts.TheConstants.{DEEP}
 use Rattle.camac_explain_plan.specs.Unknown.{unknown_sentence}
 
 -- the table that a text says as TOML
@@ -79,7 +80,7 @@ nested_at (case.Nested at) = Some at
 nested_at _ = None
 
 abbrev pub nested_text : (text : List ℕ) → (at : ℕ) → List ℕ
-nested_text text at = place_text (take at text) (codes "this is 17 deep")
+nested_text text at = place_text (take at text) DEEP.now
 
 abbrev pub nested_or : (text : List ℕ) → Option ℕ → (otherwise : Option (List ℕ)) → Option (List ℕ)
 nested_or text (Some at) otherwise = Some (nested_text text at)

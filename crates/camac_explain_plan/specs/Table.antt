@@ -1,5 +1,5 @@
 -- The tables of a plan by their places, and what they are called.
-use Rattle.std.specs.Prelude.{ℕ, List, Option, Some, None, codes, option_and_then}
+use Rattle.std.specs.Prelude.{ℕ, List, Option, Some, codes, option_and_then}
 use Rattle.toml.specs.Data.{Data, Members, as_table, at}
 use Rattle.camac_plan.specs.Field.{value_at}
 use Rattle.camac_plan.specs.declared.fault.PlanTable.{PlanTable}

@@ -1,16 +1,18 @@
 -- What is told of a key that its table has not: what it may be, and the keys of the table.
 use Rattle.std.specs.Prelude.{ℕ, ◌+◌, zero, suc, Bool, List, [], ◌∷◌, ◌++◌, Option, Some, None, codes, find, length, option_map, option_and_then}
 use Rattle.std.specs.List.{concat, list_any}
-use Rattle.toml.specs.Data.{Data, Members, no_members, member}
+use Rattle.toml.specs.Data.{Members, no_members, member}
 use Rattle.camac_lines.specs.Words.{before_item, is_near, quoted}
 use Rattle.camac_plan.specs.Field.{is_text}
 use Rattle.camac_plan.specs.Key.{key_text, keys_of}
 use Rattle.camac_plan.specs.declared.fault.PlanTable.{PlanTable}
 use Rattle.camac_plan.specs.declared.fault.PlanTable.TheVariants.{Top, ModuleType, Command, Crate, Station}
 use Rattle.camac_plan.specs.declared.key.PlanKey.{PlanKey}
-use Rattle.camac_explain_plan.specs.Path.{comma, path}
+use Rattle.camac_explain_plan.specs.Path.{comma, way_to}
 use Rattle.camac_explain_plan.specs.Table.{kind_of, table_at}
+use Rattle.camac_explain_plan.specs.declared.texts.TheConstants.{HOME, MEANT, UNKNOWN}
 use Rattle.camac_explain_plan.specs.declared.unknown.Meant.{Meant}
+use Rattle.camac_sentence.specs.Filled.{filled, with}
 use Rattle.camac_explain_plan.specs.declared.unknown.Meant.TheVariants.{Near, Home, Nothing}
 
 -- the key of this number, in the order of their bytes, from 0
@@ -43,8 +45,8 @@ abbrev pub hint : List ℕ → PlanTable → Meant
 hint k table = hint_by (near_key k (keys_of table)) (home_of k homes)
 
 abbrev pub hint_text : Meant → List ℕ
-hint_text (Near near) = concat (codes " Did you mean `" ∷ key_text near ∷ codes "`?" ∷ [])
-hint_text (Home home) = concat (codes " It is a key of " ∷ kind_of home ∷ codes "." ∷ [])
+hint_text (Near near) = with MEANT.now (key_text near)
+hint_text (Home home) = with HOME.now (kind_of home)
 hint_text Nothing = []
 
 abbrev pub key_item : (before : List ℕ) → PlanKey → List ℕ
@@ -61,8 +63,7 @@ keys_text table = keys_from 0 (length (keys_of table)) (keys_of table)
 
 abbrev pub unknown_text : (top : Members) → PlanTable → (key : List ℕ) → List ℕ
 unknown_text top table key =
-    concat (path (Some top) (Some top) table ∷ comma table ∷ quoted key ∷ codes ": there is no such key." ∷ hint_text (hint key table)
-    ∷ codes " The keys of " ∷ kind_of table ∷ codes " are " ∷ keys_text table ∷ codes "." ∷ [])
+    filled UNKNOWN.now (way_to top table None ∷ comma table ∷ quoted key ∷ hint_text (hint key table) ∷ kind_of table ∷ keys_text table ∷ [])
 
 abbrev pub key_in : (top : Members) → PlanTable → (entry : ℕ) → Option (List ℕ)
 key_in top table entry = option_and_then (nth_key entry) (table_at top table)

@@ -5,6 +5,7 @@ mod path;
 mod place;
 mod sentence;
 mod table;
+mod texts;
 mod told;
 mod unknown;
 

@@ -11,22 +11,14 @@ use std::alloc::{AllocError, Global};
 use std::fmt;
 use toml::{Table, Value};
 
+static ORDINALS: [&str; 10] = [
+    "first", "second", "third", "fourth", "fifth", "sixth", "seventh", "eighth", "ninth", "tenth",
+];
+
 fn ordinal(place: usize) -> Option<&'static str>
     ensures { option_copied result ≡ ordinal place }
 {
-    match place {
-        0 => Some("first"),
-        1 => Some("second"),
-        2 => Some("third"),
-        3 => Some("fourth"),
-        4 => Some("fifth"),
-        5 => Some("sixth"),
-        6 => Some("seventh"),
-        7 => Some("eighth"),
-        8 => Some("ninth"),
-        9 => Some("tenth"),
-        _ => None,
-    }
+    ORDINALS.get(place).copied()
 }
 
 // An entry by its place in the text, from 0.

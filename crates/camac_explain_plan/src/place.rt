@@ -4,6 +4,8 @@ ghost use Rattle.std.specs.Prelude.{◌≡◌, ◌≤◌, IfOk, count_by, false,
 ghost use Rattle.std.specs.Char.{is_ascii_alphanumeric};
 ghost use Rattle.camac_explain_plan.specs.Place.{begins_character, begins_like_a_script, begins_quote, begins_range, column_behind, from_word, hint_at, hint_of_text, is_declaration, is_single_bracket, is_table_heading, last_begin, line_behind, place_text};
 
+use crate::texts;
+use camac_sentence::{Part, fill};
 use std::alloc::{AllocError, Global};
 
 // How a sentence begins that is told of the place behind some bytes.
@@ -15,7 +17,11 @@ pub(crate) fn place_sentence(
     ensures { IfOk result (λ s. string_bytes s ≡ place_text before.now message.now) }
 {
     let (line, column) = (line_behind(before), column_behind(before));
-    format!(in alloc; "Line {line}, column {column}: {message}.")
+    fill(
+        alloc,
+        texts::PLACE,
+        &[Part::Count(line), Part::Count(column), Part::Word(message)],
+    )
 }
 
 // The text from a place on, and before it.
@@ -98,19 +104,14 @@ fn last_begin(text: &[u8]) -> usize
     begin
 }
 
-pub(crate) const DOUBLE_BRACKETS: &str =
-    "Write crates, stations and types in double brackets: `[[crate]]`, `[[crate.station]]`, `[[type]]`.";
-
-pub(crate) const RANGE: &str = "A range is written as `a = 0, to = 11`.";
-
 // What is to be known of a text that is no TOML behind so many of its bytes.
 pub(crate) fn hint_of_text(text: &[u8], at: usize) -> Option<&'static str>
     ensures { option_map (λ h. h.now) result ≡ hint_of_text text.now at }
 {
     if begins_like_a_script(text) {
-        Some("This begins like a script: PLAN comes first, then SCRIPT.")
+        Some(texts::SCRIPT_FIRST)
     } else if is_table_heading(text, at) {
-        Some(DOUBLE_BRACKETS)
+        Some(texts::DOUBLE_BRACKETS)
     } else {
         hint_at(behind(text, at))
     }
@@ -121,11 +122,11 @@ fn hint_at(rest: &[u8]) -> Option<&'static str>
     ensures { option_map (λ h. h.now) result ≡ hint_at rest.now }
 {
     if rest.starts_with(b":") {
-        Some("Write `=` between a key and its value.")
+        Some(texts::EQUALS_SIGN)
     } else if begins_quote(rest) {
-        Some("Curly quotes are none: write `\"`.")
+        Some(texts::CURLY_QUOTES)
     } else if begins_range(rest) {
-        Some(RANGE)
+        Some(texts::RANGE)
     } else {
         None
     }

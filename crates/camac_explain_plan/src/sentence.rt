@@ -7,6 +7,7 @@ ghost use Rattle.camac_explain_plan.specs.Sentence.{IsPlanSentence, IsReadSenten
 use crate::path::way_to;
 use crate::place::{before, place_sentence};
 use crate::table::value_in;
+use crate::texts::DEEP;
 use crate::told::case_text;
 use crate::unknown::unknown_sentence;
 use camac_plan::{PlanCase, PlanKey, PlanTable};
@@ -41,7 +42,7 @@ fn nested_at(case: PlanCase) -> Option<usize>
 fn nested_sentence(alloc: Global, text: &[u8], at: usize) -> Result<Option<String>, AllocError>
     ensures { IfOk result (λ s. option_map string_bytes s ≡ Some (nested_text text.now at)) }
 {
-    place_sentence(alloc, before(text, at), "this is 17 deep").map(Some)
+    place_sentence(alloc, before(text, at), DEEP).map(Some)
 }
 
 // Of a text that is read as TOML.

@@ -1,48 +1,45 @@
 // What is told of a value: what it is, and what is expected there.
 
-ghost use Rattle.std.specs.Prelude.{◌≡◌, IfOk, Some, option_map, string_bytes};
+ghost use Rattle.std.specs.Prelude.{◌≡◌, IfOk, option_map, string_bytes};
 ghost use Rattle.toml.specs.View.{array_view, table_view, view};
-ghost use Rattle.camac_explain_plan.specs.Told.{command_place, entry_or, first_other, key_hint, kind_name, kind_text, kind_told, missing_hint, missing_told, needed, other_in, plan_hint, shown, case_text, twice_told};
+ghost use Rattle.camac_explain_plan.specs.Told.{command_place, first_other, key_hint, kind_name, kind_text, kind_told, missing_hint, missing_told, needed, other_in, plan_hint, shown, case_text, twice_told};
+ghost use Rattle.camac_explain_plan.specs.Path.{nth};
+ghost use Rattle.camac_sentence.specs.Filled.{part_text};
 
 use crate::path::{Nth, Path, is_known_by};
-use crate::place::{DOUBLE_BRACKETS, RANGE, hint_of_text};
+use crate::place::hint_of_text;
+use crate::texts;
 use camac_lines::Quote;
 use camac_plan::{PlanCase, PlanKey, PlanTable, ValueKind};
+use camac_sentence::{Part, fill};
 use std::alloc::{AllocError, Global};
-use std::fmt;
 use toml::value::Array;
 use toml::{Table, Value};
 
 // What has to stand at a key.
-#[derive(Clone, Copy)]
-struct Needed(ValueKind);
-
-impl fmt::Display for Needed {
-    ghost output = { λ n. Some (needed n.0) };
-
-    fn fmt<W: fmt::Write>(&self, f: &mut fmt::Formatter<W>) -> fmt::Result {
-        match self.0 {
-            ValueKind::Number { low, high } => write!(f, "a whole number from {low} to {high}"),
-            ValueKind::Flag => write!(f, "`true` or `false`"),
-            ValueKind::Text => write!(f, "a text in double quotes"),
-            ValueKind::Tables => write!(f, "an array of tables"),
-        }
+fn needed(alloc: Global, kind: ValueKind) -> Result<String, AllocError>
+    ensures { IfOk result (λ s. string_bytes s ≡ needed kind) }
+{
+    match kind {
+        ValueKind::Number { low, high } => fill(
+            alloc,
+            texts::WHOLE_NUMBER,
+            &[Part::Number(low), Part::Number(high)],
+        ),
+        ValueKind::Flag => String::from_str(alloc, texts::FLAG),
+        ValueKind::Text => String::from_str(alloc, texts::TEXT),
+        ValueKind::Tables => String::from_str(alloc, texts::TABLES),
     }
 }
 
 // A value of a plan as it is told.
-#[derive(Clone, Copy)]
-struct Shown<'a>(Option<&'a Value>);
-
-impl fmt::Display for Shown<'_> {
-    ghost output = { λ s. Some (shown (option_map (λ v. view v.now) s.0)) };
-
-    fn fmt<W: fmt::Write>(&self, f: &mut fmt::Formatter<W>) -> fmt::Result {
-        match self.0 {
-            Some(Value::Integer(number)) => write!(f, "{number}"),
-            Some(Value::String(text)) => write!(f, "{}", Quote(text.as_str().as_bytes())),
-            _ => write!(f, "`?`"),
-        }
+fn shown(value: Option<&Value>) -> Part<'_>
+    ensures { part_text result ≡ shown (option_map (λ v. view v.now) value.entry) }
+{
+    match value {
+        Some(Value::Integer(number)) => Part::Signed(*number),
+        Some(Value::String(text)) => Part::Quoted(Quote(text.as_str().as_bytes())),
+        _ => Part::Word("`?`"),
     }
 }
 
@@ -67,7 +64,6 @@ pub(crate) fn case_text(
 ) -> Result<String, AllocError>
     ensures { IfOk result (λ s. string_bytes s ≡ case_text (table_view top.now) (option_map (λ v. view v.now) value.entry) case) }
 {
-    let shown = Shown(value);
     match case {
         PlanCase::Missing { kind, .. } => missing_told(alloc, kind),
         PlanCase::Kind { kind, .. } => kind_told(alloc, value, kind),
@@ -76,45 +72,51 @@ pub(crate) fn case_text(
             low,
             high,
             ..
-        } => { format!(in alloc; "the value is {found}; expected {low} to {high}.") }
-        PlanCase::Name { .. } => format!(in alloc;
-            "the value is {shown}, and a name has 1 to 32 letters, digits, `_` or `-`."
+        } => fill(
+            alloc,
+            texts::OUT_OF_RANGE,
+            &[Part::Signed(found), Part::Number(low), Part::Number(high)],
         ),
-        PlanCase::Probe { width, .. } => {
-            format!(in alloc; "the value is {width}, and a probe has 24 bits.")
-        }
-        PlanCase::ClearingProbe { .. } => {
-            String::from_str(alloc, "a probe clears no look-at-me.")
-        }
-        PlanCase::Full { .. } => String::from_str(alloc, "there are at most 64 types."),
-        PlanCase::Twice { key, first, .. } => twice_told(alloc, top, shown, key, first),
+        PlanCase::Name { .. } => fill(alloc, texts::NO_NAME, &[shown(value)]),
+        PlanCase::Probe { width, .. } => fill(alloc, texts::PROBE, &[Part::Number(width)]),
+        PlanCase::ClearingProbe { .. } => String::from_str(alloc, texts::CLEARING_PROBE),
+        PlanCase::Full { .. } => String::from_str(alloc, texts::FULL),
+        PlanCase::Twice { key, first, .. } => twice_told(alloc, top, value, key, first),
         PlanCase::Command { f, a, first, .. } => {
-            let first = Nth {
-                place: command_place(first),
-                of: "command",
-            };
-            format!(in alloc; "F{f} at A{a} is declared already, at the {first}.")
+            let first = nth(alloc, command_place(first), "command")?;
+            fill(
+                alloc,
+                texts::DECLARED,
+                &[Part::Number(f), Part::Number(a), Part::Word(first.as_str())],
+            )
         }
-        _ => format!(in alloc; "the value is {shown}."),
+        _ => fill(alloc, texts::VALUE, &[shown(value)]),
     }
+}
+
+fn nth(alloc: Global, place: usize, of: &'static str) -> Result<String, AllocError>
+    ensures { IfOk result (λ s. string_bytes s ≡ nth place of.now) }
+{
+    let nth = Nth { place, of };
+    format!(in alloc; "{nth}")
 }
 
 fn missing_told(alloc: Global, wanted: ValueKind) -> Result<String, AllocError>
     ensures { IfOk result (λ s. string_bytes s ≡ missing_told wanted) }
 {
-    let needed = Needed(wanted);
-    format!(in alloc; "the key is missing; expected {needed}.")
+    let needed = needed(alloc, wanted)?;
+    fill(alloc, texts::MISSING, &[Part::Word(needed.as_str())])
 }
 
 // A value that the first table of it has. What this is known by is no way to it, but its home has a name.
 fn twice_told(
     alloc: Global,
     top: &Table,
-    shown: Shown<'_>,
+    value: Option<&Value>,
     key: PlanKey,
     first: PlanTable,
 ) -> Result<String, AllocError>
-    ensures { IfOk result (λ s. string_bytes s ≡ twice_told (table_view top.now) (option_map (λ v. view v.now) shown.entry.0) key first) }
+    ensures { IfOk result (λ s. string_bytes s ≡ twice_told (table_view top.now) (option_map (λ v. view v.now) value.entry) key first) }
 {
     let own = if is_known_by(key) { None } else { Some(top) };
     let first = Path {
@@ -122,7 +124,12 @@ fn twice_told(
         own,
         table: first,
     };
-    format!(in alloc; "the value is {shown}, which is already used at {first}.")
+    let first = format!(in alloc; "{first}")?;
+    fill(
+        alloc,
+        texts::USED,
+        &[shown(value), Part::Word(first.as_str())],
+    )
 }
 
 fn command_place(table: PlanTable) -> usize
@@ -140,16 +147,23 @@ fn kind_told(alloc: Global, value: Option<&Value>, wanted: ValueKind) -> Result<
 {
     match other_in(wanted, value) {
         Some((place, kind)) => {
-            let nth = Nth { place, of: "entry" };
-            format!(in alloc;
-                "the {nth} is of the kind {kind}; expected a table, such as `{{ f = 0, a = 0 }}`."
+            let nth = nth(alloc, place, "entry")?;
+            fill(
+                alloc,
+                texts::NO_TABLE,
+                &[Part::Word(nth.as_str()), Part::Word(kind)],
             )
         }
-        None => {
-            let (kind, needed) = (kind_name(value), Needed(wanted));
-            format!(in alloc; "the value is of the kind {kind}; expected {needed}.")
-        }
+        None => kind_text(alloc, value, wanted),
     }
+}
+
+fn kind_text(alloc: Global, value: Option<&Value>, wanted: ValueKind) -> Result<String, AllocError>
+    ensures { IfOk result (λ s. string_bytes s ≡ kind_text (option_map (λ v. view v.now) value.entry) wanted) }
+{
+    let needed = needed(alloc, wanted)?;
+    let kind = Part::Word(kind_name(value));
+    fill(alloc, texts::KIND, &[kind, Part::Word(needed.as_str())])
 }
 
 fn kind_name(value: Option<&Value>) -> &'static str
@@ -166,8 +180,8 @@ fn key_hint(key: PlanKey) -> Option<&'static str>
     ensures { option_map (λ h. h.now) result ≡ key_hint key }
 {
     match key {
-        PlanKey::A => Some(RANGE),
-        PlanKey::Crates | PlanKey::Stations | PlanKey::Types => Some(DOUBLE_BRACKETS),
+        PlanKey::A => Some(texts::RANGE),
+        PlanKey::Crates | PlanKey::Stations | PlanKey::Types => Some(texts::DOUBLE_BRACKETS),
         _ => None,
     }
 }
@@ -177,7 +191,7 @@ fn missing_hint(key: PlanKey) -> Option<&'static str>
     ensures { option_map (λ h. h.now) result ≡ missing_hint key }
 {
     match key {
-        PlanKey::Number => Some("It stands above the crate's first `[[crate.station]]`."),
+        PlanKey::Number => Some(texts::ABOVE_STATIONS),
         _ => None,
     }
 }

@@ -1,17 +1,18 @@
 // What is told of a key that its table has not: what it may be, and the keys of the table.
 
-ghost use Rattle.std.specs.Prelude.{◌≡◌, ◌++◌, IfOk, OnOk, Some, length, option_copied, option_map, string_bytes};
+ghost use Rattle.std.specs.Prelude.{◌≡◌, ◌++◌, IfOk, OnOk, length, option_copied, option_map, string_bytes};
 ghost use Rattle.toml.specs.View.{table_view};
 ghost use Rattle.std.specs.List.{list_any};
 ghost use Rattle.camac_plan.specs.Field.{is_text};
 ghost use Rattle.camac_explain_plan.specs.Unknown.{hint, hint_text, home_of, homes, key_in, key_item, keys_from, near_key, nth_key, unknown_sentence, unknown_text};
 
-use crate::path::{Path, comma};
+use crate::path::{comma, way_to};
 use crate::table::{kind_of, table_at};
+use crate::texts::{HOME, MEANT, UNKNOWN};
 use camac_lines::{Quote, before_item, is_near};
 use camac_plan::{PlanKey, PlanTable, keys_of};
+use camac_sentence::{Part, fill};
 use std::alloc::{AllocError, Global};
-use std::fmt;
 use toml::Table;
 
 // Of the key of this number, in the order of their bytes, if the table has it.
@@ -59,15 +60,20 @@ fn unknown_text(
 ) -> Result<String, AllocError>
     ensures { IfOk result (λ s. string_bytes s ≡ unknown_text (table_view top.now) table key.now) }
 {
-    let path = Path {
-        around: Some(top),
-        own: Some(top),
-        table,
-    };
-    let (comma, shown, kind) = (comma(table), Quote(key.as_bytes()), kind_of(table));
-    let (hint, keys) = (hint(key, table), keys_text(alloc, keys_of(table))?);
-    format!(in alloc;
-        "{path}{comma}{shown}: there is no such key.{hint} The keys of {kind} are {keys}."
+    let path = way_to(alloc, top, table, None)?;
+    let hint = hint_text(alloc, hint(key, table))?;
+    let keys = keys_text(alloc, keys_of(table))?;
+    fill(
+        alloc,
+        UNKNOWN,
+        &[
+            Part::Word(path.as_str()),
+            Part::Word(comma(table)),
+            Part::Quoted(Quote(key.as_bytes())),
+            Part::Word(hint.as_str()),
+            Part::Word(kind_of(table)),
+            Part::Word(keys.as_str()),
+        ],
     )
 }
 
@@ -99,15 +105,13 @@ enum Meant {
     Nothing,
 }
 
-impl fmt::Display for Meant {
-    ghost output = { λ h. Some (hint_text h) };
-
-    fn fmt<W: fmt::Write>(&self, f: &mut fmt::Formatter<W>) -> fmt::Result {
-        match self {
-            Meant::Near(near) => write!(f, " Did you mean `{}`?", near.text()),
-            Meant::Home(home) => write!(f, " It is a key of {}.", kind_of(*home)),
-            Meant::Nothing => Ok(()),
-        }
+fn hint_text(alloc: Global, meant: Meant) -> Result<String, AllocError>
+    ensures { IfOk result (λ s. string_bytes s ≡ hint_text meant) }
+{
+    match meant {
+        Meant::Near(near) => fill(alloc, MEANT, &[Part::Word(near.text())]),
+        Meant::Home(home) => fill(alloc, HOME, &[Part::Word(kind_of(home))]),
+        Meant::Nothing => Ok(String::new(alloc)),
     }
 }
 
