@@ -187,6 +187,18 @@ class Lemmas(unittest.TestCase):
         self.assertLessEqual(int(run(TOP / "tools/believe.py", "--lawless").stdout.split()[-1]), 4947)
 
 
+class Texts(unittest.TestCase):
+    def test_gaps(self):
+        """A text has as many gaps as its definition puts parts into it, which no proof counts."""
+        for crate in (TOP / "crates").glob("camac_explain*"):
+            sources, definitions = ("".join(it.read_text() for it in crate.glob(files)) for files in ("src/*.rt", "specs/*.antt"))
+            texts = dict(re.findall(r'const (\w+): &str =\s*"((?:[^"\\]|\\.)*)";', sources))
+            for name, parts in re.findall(r"(?:filled|says) (?:text\.)?([A-Z]\w+)\.now (\(.*?) ∷ \[\]\)", definitions, re.S):
+                self.assertEqual(texts[name].count("%"), parts.count("∷") + 1, name)
+            for name in re.findall(r"(?:with|of_word) (?:text\.)?([A-Z]\w+)\.now", definitions):
+                self.assertEqual(texts[name].count("%"), 1, name)
+
+
 class Hooks(unittest.TestCase):
     def test_hooks(self):
         """Each hook calls a command that is put in place, for scripts alone."""
