@@ -4,6 +4,7 @@ pub mod Guarded
 pub mod ShownTurns
 pub mod ShownExpressions
 pub mod ShownAddresses
+mod AddressRows
 pub mod ShownWindows
 pub mod Places
 pub mod RefusedAt
