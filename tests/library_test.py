@@ -72,6 +72,18 @@ service adc within 12 cycles event 3 words {
   put v
 }
 """
+LOCKS = """cdlam adc 1 1 5 12
+var v
+service adc within 13 cycles event 0 words {
+  cclc adc
+  lock 1 {
+    cdreg r 1 1 5 3
+    cfsa 0 r -> v
+    cclc adc
+  }
+  cclc adc
+}
+"""
 ARCHIVE_BYTES = 1_300_000
 NEEDED = {"malloc", "realloc", "free", "memcpy", "memmove", "memset"}
 ESONE = """
@@ -742,6 +754,11 @@ class Python(Case):
         with library.Session(self.sample(), ARMS) as session:
             session.next(DEMAND)
             self.assertEqual([(it.a, it.f) for it in session.ahead()], [(3, 0), (3, 0), (12, 10)])
+        with library.Session(self.sample(), LOCKS) as session:
+            session.next(DEMAND)
+            self.assertEqual([(it.kind, it.waits) for it in session.ahead()], [(library.CYCLE, 2), (library.LOCK, 2), *[(library.CYCLE, 0)] * 2])
+            session.next(CYCLE)
+            self.assertEqual([(it.kind, it.waits) for it in session.ahead()], [(library.LOCK, 2), *[(library.CYCLE, 0)] * 2])
 
     def left(self, session):
         """What is left of a block, and the words to write."""

@@ -243,8 +243,8 @@ CAMAC_CALL camac_next(camac_session *s, const camac_answer *answer, camac_progre
 /* The operations that come next, whatever is answered, for a controller that makes lists of commands in one transfer. Writes as many as there is room
  * for, and answers how many: one at least where the run goes on, and CAMAC_AHEAD at most; one, too, while the run may make fewer steps at once than
  * CAMAC_AHEAD_STEPS, since it could pause before the last. 0 where the run is stopped or pauses, or the session is none. The first is that of
- * camac_wants. A list ends before a lock, a transfer, a `while`, and an `if` of cycles that answers decide. Before its last answer is taken, no
- * lockout is to be released and no event left. A wait that is not permitted stops the run before the rest. The size of want[0] counts for all. */
+ * camac_wants. A list ends before a transfer, a `while`, and an `if` of cycles that answers decide. Before its last answer is taken, no lockout is to
+ * be released and no event left. A wait that is not permitted stops the run before the rest. The size of want[0] counts for all. */
 size_t camac_ahead(const camac_session *s, camac_want *want, size_t room);
 
 /* camac_next of one answer after the other, up to one that is not taken, whose code it gives, that leaves an event, whose words and record can be

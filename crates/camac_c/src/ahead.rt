@@ -1,7 +1,7 @@
 // The operations that come next, whatever is answered.
 
 ghost use Rattle.std.specs.Prelude.{◌≡◌, ◌≤◌, length};
-ghost use Rattle.camac_c.specs.Ahead.{fields_of, numbers_ahead};
+ghost use Rattle.camac_c.specs.Ahead.{fields_of, locked_behind, numbers_ahead, want_behind};
 ghost use Rattle.camac_c.specs.Talk.{AnswersBytes};
 ghost use Rattle.camac_c.specs.declared.plain.SessionAsk.TheVariants as ask;
 
@@ -17,6 +17,9 @@ const FIELDS: usize = 9;
 
 /// Those of the most operations that are told ahead, 64.
 const NUMBERS: usize = 576;
+
+/// The numbers of crates, from 0.
+const CRATES: usize = 8;
 
 /// The operations that come next, whatever is answered: of each its kind, crate, station, sub-address, function, data, waits, width and word, in the
 /// form of words. Returns how many numbers these are.
@@ -43,11 +46,37 @@ pub fn numbers_ahead(session: &Session, ahead: &[Wanted]) -> ArrayVec<u32, NUMBE
     ensures { result.items ≡ numbers_ahead session.now.checked.now.plan session.now.runner ahead.now }
 {
     let mut numbers = ArrayVec::new();
+    let mut locked = [false; CRATES];
     'ahead: for wanted in ahead {
-        let want = want_of(session, wanted);
+        let want = want_behind(session, &locked, wanted);
         numbers.try_extend_from_slice(&fields_of(want)).unwrap();
+        lock(wanted, &mut locked);
     }
     numbers
+}
+
+// What an operation is told as behind those that have locked these crates.
+fn want_behind(session: &Session, locked: &[bool], wanted: &Wanted) -> CamacWant
+    ensures { result ≡ want_behind session.now.checked.now.plan session.now.runner locked.now wanted.now }
+{
+    let mut want = want_of(session, wanted);
+    let c = usize::from(want.c);
+    if c < locked.len() && locked[c] {
+        want.waits = 0;
+    }
+    want
+}
+
+// Locks a crate, where an operation does.
+fn lock(wanted: &Wanted, locked: &mut [bool])
+    ensures { locked.new ≡ locked_behind wanted.now locked.old }
+{
+    if let Wanted::Lock(c) = wanted {
+        let c = c.get() as usize;
+        if c < locked.len() {
+            locked[c] = true;
+        }
+    }
 }
 
 fn fields_of(want: CamacWant) -> [u32; FIELDS]

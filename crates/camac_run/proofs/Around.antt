@@ -6,20 +6,23 @@ use Rattle.camac_branch.specs.Address.{Address}
 use Rattle.camac_checked.specs.Checked.{CheckedScript}
 use Rattle.camac_lang.specs.Tree.{Block, Procedure}
 use Rattle.camac_lang.specs.View.{statements_of}
-use Rattle.camac_model.specs.Behaviour.{Action, then_do, ends}
+use Rattle.camac_model.specs.Behaviour.{Behaviour, Action, then_do, ends}
 use Rattle.camac_model.specs.Fine.{most_turns}
 use Rattle.camac_model.specs.Meaning.{Context, context, block_meaning, for_turns}
 use Rattle.camac_model.proofs.Runs.{then_assoc}
-use Rattle.camac_machine.specs.MachineState.{bounds_of, context_in, left_in, open_of, opens_of, owner_of}
+use Rattle.camac_machine.specs.MachineState.{bounds_of, context_in, left_in, open_of, opens_of, owner_of, pending_of}
 use Rattle.camac_model.specs.State.{State}
 use Rattle.camac_machine.specs.Rest.{for_loop, nothing, returns, owed, rest_in}
 use Rattle.camac_machine.specs.Store.{held_at, registers_in, variables_in}
 use Rattle.camac_machine.specs.declared.machine.Frame.{Frame}
 use Rattle.camac_machine.specs.declared.machine.Machine.{Machine}
+use Rattle.camac_machine.specs.declared.machine.Pending.{Pending}
+use Rattle.camac_machine.specs.declared.machine.Pending.TheVariants.{Cycle, Read, Lock, Transfer, Pause}
+use Rattle.camac_lang.specs.declared.tree.Stmt.{Stmt}
 use Rattle.camac_machine.specs.declared.scope.Scope.{Scope}
 use Rattle.camac_machine.proofs.Blocks.{then_ends}
 use Rattle.camac_machine.proofs.Frames.{left_pushed}
-use Rattle.camac_run.specs.Sure.{IsKnown, KnowsRegisters, KnowsVariables, context_before, context_of, LeadsTo, Adds, on}
+use Rattle.camac_run.specs.Sure.{IsKnown, KnowsRegisters, KnowsVariables, goes_on_with, context_before, context_of, LeadsTo, Adds, on}
 use Rattle.camac_run.specs.declared.ahead.Inside.{Inside}
 use Rattle.camac_run.specs.declared.ahead.Known.{Known}
 use Rattle.camac_run.specs.declared.progress.Wanted.{Wanted}
@@ -112,8 +115,17 @@ module _ (c : Context) (x v w n : ℕ) (body : Block) (k : Known) (old : List Wa
       subst (λ j. Adds c.plan (for_turns j n x (v + 1) w turns_body) k old true (record k { variables = set k.variables x (Some w) }) old) none
       (adds_last c.plan n x (v + 1) w turns_body k old old refl)
 
--- what is ahead of all open blocks
-pub adds_following : {V D C : ℕ} (h : Machine V D C) (k : Known) (made : List Wanted) → MakesFirst h.checked.now.plan (left_in h) k made → (t : State) → IsKnown k.variables k.registers t → LeadsTo h.checked.now.plan (bounds_of h) (left_in h) t made
-adds_following h k made m t known =
-    leads_along h.checked.now.plan (bounds_of h) (left_in h) (λ u. then_do (left_in h u) (λ s. ends s)) t t made (λ answers. sym (then_ends (left_in h (on answers t))))
+-- what is ahead of all open blocks, behind a cycle
+pub adds_following : {V D C : ℕ} (h : Machine V D C) (w : Pending) (k : Known) (made : List Wanted) → ((c : ℕ) (body : Bor (List Stmt)) → w ≡ Lock c body → ⊥) → MakesFirst h.checked.now.plan (left_in h) k made → (t : State) → IsKnown k.variables k.registers t
+    → LeadsTo h.checked.now.plan (bounds_of h) (λ u. then_do (goes_on_with (context_in h.checked.now) (pending_of w) u) (left_in h)) t made
+adds_following h w k made unlocked m t known =
+    leads_along h.checked.now.plan (bounds_of h) (λ u. then_do (goes_on_with (context_in h.checked.now) (pending_of w) u) (left_in h)) (λ u. then_do (left_in h u) (λ s. ends s)) t t made
+    (λ answers. ap (λ (b : Behaviour State). then_do b (left_in h)) (alone w unlocked (on answers t)) ∙ sym (then_ends (left_in h (on answers t))))
     (m (bounds_of h) (λ s. ends s) t known)
+  where
+    alone : (v : Pending) → ((c : ℕ) (body : Bor (List Stmt)) → v ≡ Lock c body → ⊥) → (s : State) → goes_on_with (context_in h.checked.now) (pending_of v) s ≡ ends s
+    alone (Cycle k) n s = refl
+    alone (Read k x bits) n s = refl
+    alone (Lock c body) n s = absurd (n c body refl)
+    alone (Transfer v) n s = refl
+    alone Pause n s = refl

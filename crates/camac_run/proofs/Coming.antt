@@ -9,10 +9,10 @@ use Rattle.camac_branch.specs.Crates.{Crates, is_permitted}
 use Rattle.camac_branch.specs.Plan.{Layout, crate_waits}
 use Rattle.camac_branch.specs.declared.answer.Command.{Command}
 use Rattle.camac_branch.specs.declared.answer.Overrun.{Overrun}
-use Rattle.camac_model.specs.Behaviour.{Behaviour, does, ends, stops, overrun, Piece, cycled, lock_released, event_left, Action, then_do}
-use Rattle.camac_model.specs.Cycle.{outcome, follow, after_cycle, cycle, kept, make_cycle}
-use Rattle.camac_model.specs.Fine.{Bounds, IsFine}
-use Rattle.camac_model.specs.Meaning.{Context}
+use Rattle.camac_model.specs.Behaviour.{Behaviour, does, ends, stops, overrun, Piece, cycled, lock_taken, lock_released, event_left, Action, then_do, given}
+use Rattle.camac_model.specs.Cycle.{outcome, follow, after_cycle, after_lock, cycle, kept, make_cycle, release, take_lock}
+use Rattle.camac_model.specs.Fine.{Bounds, IsFine, most_turns}
+use Rattle.camac_model.specs.Meaning.{Context, block_meaning}
 use Rattle.camac_model.specs.Run.{event_of}
 use Rattle.camac_model.specs.State.{State, Variables, set_at, with_variable}
 use Rattle.camac_model.proofs.Runs.{then_assoc}
@@ -21,14 +21,15 @@ use Rattle.camac_machine.specs.Rest.{address_of, Operation, makes, reads, locks,
 use Rattle.camac_machine.specs.declared.item.Item.{Item}
 use Rattle.camac_machine.specs.declared.machine.Machine.{Machine}
 use Rattle.camac_machine.specs.declared.machine.Pending.{Pending}
-use Rattle.camac_machine.proofs.Fine.{fine_follow, some_is}
+use Rattle.camac_machine.proofs.Fine.{fine_follow, fine_lock, some_is}
+use Rattle.camac_machine.proofs.Taken.{lock_goes, lock_halts}
 use Rattle.camac_machine.proofs.Takes.{cycle_goes, cycle_halts}
 use Rattle.camac_run.specs.Ahead.{Does, past_first, AreAhead, IsAhead, BeginningsAreAhead, AheadIsMade, operations, with_operation}
 use Rattle.camac_run.specs.Holds.{told_of, event_pieces}
 use Rattle.camac_run.specs.Operation.{Begins, Waits, Wants, crate_of, operation_of}
 use Rattle.camac_run.specs.Runner.{RunnerState, rest, with_event, last_words_in, GoesOn}
 use Rattle.camac_run.specs.Sound.{runner_state}
-use Rattle.camac_run.specs.Sure.{Knows, cycle_of, After, on, LeadsTo}
+use Rattle.camac_run.specs.Sure.{Knows, After, goes_on_with, on, one_operation, LeadsTo}
 use Rattle.camac_run.specs.declared.progress.Wanted.{Wanted}
 use Rattle.camac_run.specs.declared.progress.Wanted.TheVariants as wanted
 use Rattle.camac_run.proofs.Operation.{some_wait}
@@ -147,24 +148,76 @@ module _ {A : Type 0} (plan : Layout) (bounds : Bounds) (k : Command) (keep : Re
     cycle_ahead : AreAhead (wanted.Cycle k ∷ os) run
     cycle_ahead = (short_waits k.c (crate_waits plan k.c) (s.branch k.c).locked _ (on [] s) go planned, λ a. by_wait a (is_permitted plan s.branch k.c a.wait) refl)
 
--- the same of a single cycle that is wanted
-pub operation_ahead : {A : Type 0} (c : Context) (bounds : Bounds) (w : Operation) (k : Command) (s : State) (go : State → Behaviour A) (left : Action) (os : List Wanted) → cycle_of w ≡ Some k
+-- a lock, and what it holds
+module _ {A : Type 0} (plan : Layout) (bounds : Bounds) (k : ℕ) (body : Action) (s : State) (go : State → Behaviour A) (left : Action) (os : List Wanted) where
+  abbrev taken : List Answer → Behaviour State
+  taken answers = given (crate_waits plan k) (λ waits t. take_lock k waits (t.branch k).locked body t) (on answers s)
+
+  abbrev runs : List Answer → Behaviour A
+  runs answers = then_do (taken answers) go
+
+  module _ (fine : (answers : List Answer) → IsFine plan bounds (then_do (taken answers) left))
+      (then_ahead : (t : State) → t.registers ≡ s.registers → t.variables ≡ s.variables → ((answers : List Answer) → IsFine plan bounds (then_do (body (on answers t)) left)) → AreAhead os (λ answers. then_do (body (on answers t)) go)) where
+    ready : IsSome (crate_waits plan k) × ((s.branch k).locked ≡ false)
+    ready = fine_lock plan bounds k body (on [] s) left (fine [])
+
+    by_its_wait : (a : Answer) (p : Bool) → is_permitted plan s.branch k a.wait ≡ p → (answers : List Answer) → Begins (wanted.Lock k) a (runs (a ∷ answers)) × (Does (runs (a ∷ answers)) → AreAhead os (λ l. past_first (runs (a ∷ l))))
+    by_its_wait a true p =
+        let after : State = after_lock k a.wait [] s in
+        let first : (answers : List Answer) → taken (a ∷ answers) ≡ does (lock_taken k a.wait) (body (on answers after)) =
+        λ answers. lock_goes k body (on (a ∷ answers) s) a answers refl ready.1 plan ready.0 p in
+        goes_on (wanted.Lock k) a os runs (λ answers. then_do (body (on answers after)) go) (lock_taken k a.wait)
+        (λ answers. ap (λ (b : Behaviour State). then_do b go) (first answers)) refl
+        (then_ahead after refl refl (λ answers. (subst (λ (b : Behaviour State). IsFine plan bounds (then_do b left)) (first answers) (fine (a ∷ answers))).1))
+    by_its_wait a false p =
+        halts (wanted.Lock k) a os runs k (λ answers. on (a ∷ answers) s)
+        (λ answers. ap (λ (b : Behaviour State). then_do b go) (lock_halts k body (on (a ∷ answers) s) a answers refl ready.1 plan ready.0 p))
+        refl (some_wait (s.branch k).locked _ a.wait p)
+
+    its_wait : (o : Option ℕ) → IsSome o → Waits (then_do (given o (λ waits t. take_lock k waits (t.branch k).locked body t) (on [] s)) go)
+    its_wait None h = absurd (false≢true h)
+    its_wait (Some w) h = subst (λ l. Waits (then_do (take_lock k w l body (on [] s)) go)) (sym ready.1) tt
+
+    lock_ahead : AreAhead (wanted.Lock k ∷ os) runs
+    lock_ahead = (its_wait (crate_waits plan k) ready.0, λ a. by_its_wait a (is_permitted plan s.branch k a.wait) refl)
+
+-- the same of an operation that is wanted
+operation_ahead : {A : Type 0} (c : Context) (bounds : Bounds) (w : Operation) (o : Wanted) (s : State) (go : State → Behaviour A) (left : Action) (os : List Wanted) → one_operation w ≡ Some o
     → ((answers : List Answer) → IsFine c.plan bounds (then_do (awaited c w (on answers s)) left))
-    → ((t : State) → t.registers ≡ s.registers → After w s.variables t.variables → ((answers : List Answer) → IsFine c.plan bounds (left (on answers t))) → AreAhead os (λ answers. go (on answers t)))
-    → AreAhead (wanted.Cycle k ∷ os) (λ answers. then_do (awaited c w (on answers s)) go)
+    → ((t : State) → t.registers ≡ s.registers → After w s.variables t.variables → ((answers : List Answer) → IsFine c.plan bounds (then_do (goes_on_with c w (on answers t)) left)) → AreAhead os (λ answers. then_do (goes_on_with c w (on answers t)) go))
+    → AreAhead (o ∷ os) (λ answers. then_do (awaited c w (on answers s)) go)
 unfolding awaited
-operation_ahead c bounds (makes j) k s go left os e fine then_ahead =
-    let same : j ≡ k = cc in
-    subst (λ (i : Command). AreAhead (wanted.Cycle i ∷ os) (λ answers. then_do (awaited c (makes j) (on answers s)) go)) same
+operation_ahead c bounds (makes j) o s go left os e fine then_ahead =
+    let same : wanted.Cycle j ≡ o = cc in
+    subst (λ (i : Wanted). AreAhead (i ∷ os) (λ answers. then_do (awaited c (makes j) (on answers s)) go)) same
     (cycle_ahead c.plan bounds j (λ r t. t) s go left os (λ r t answers. refl) fine (λ r t e1 e2 f. then_ahead t e1 e2 f))
-operation_ahead c bounds (reads j x bits) k s go left os e fine then_ahead =
-    let same : j ≡ k = cc in
-    subst (λ (i : Command). AreAhead (wanted.Cycle i ∷ os) (λ answers. then_do (awaited c (reads j x bits) (on answers s)) go)) same
+operation_ahead c bounds (reads j x bits) o s go left os e fine then_ahead =
+    let same : wanted.Cycle j ≡ o = cc in
+    subst (λ (i : Wanted). AreAhead (i ∷ os) (λ answers. then_do (awaited c (reads j x bits) (on answers s)) go)) same
     (cycle_ahead c.plan bounds j (λ r t. with_variable x (kept bits r) t) s go left os (λ r t answers. refl) fine
     (λ r t e1 e2 f. then_ahead (with_variable x (kept bits r) t) e1 (kept bits r, ap (λ (vs : Variables). set_at x (kept bits r) vs) e2) f))
-operation_ahead c bounds (locks j body) k s go left os e fine then_ahead = absurd (cc)
-operation_ahead c bounds (transfers course f table x) k s go left os e fine then_ahead = absurd (cc)
-operation_ahead c bounds pauses k s go left os e fine then_ahead = absurd (cc)
+operation_ahead c bounds (locks j body) o s go left os e fine then_ahead =
+    let same : wanted.Lock j ≡ o = cc in
+    subst (λ (i : Wanted). AreAhead (i ∷ os) (λ answers. then_do (awaited c (locks j body) (on answers s)) go)) same
+    (lock_ahead c.plan bounds j (λ u. then_do (block_meaning c most_turns body u) (release j)) s go left os fine then_ahead)
+operation_ahead c bounds (transfers course f table x) o s go left os e fine then_ahead = absurd (cc)
+operation_ahead c bounds pauses o s go left os e fine then_ahead = absurd (cc)
+
+pub operation_leads : (c : Context) (bounds : Bounds) (w : Operation) (o : Wanted) (s : State) (left : Action) (os : List Wanted) → one_operation w ≡ Some o
+    → ((t : State) → t.registers ≡ s.registers → After w s.variables t.variables → LeadsTo c.plan bounds (λ u. then_do (goes_on_with c w u) left) t os) → LeadsTo c.plan bounds (λ u. then_do (awaited c w u) left) s (o ∷ os)
+operation_leads c bounds w o s left os e h fine leave =
+    subst (λ (r : List Answer → Behaviour (Unit {0})). AreAhead (o ∷ os) r) (sym (fun_ext (λ answers. then_assoc (awaited c w (on answers s)) left leave)))
+    (operation_ahead c bounds w o s (λ t. then_do (left t) leave) left os e fine
+    (λ t r v f.
+    subst (λ (r : List Answer → Behaviour (Unit {0})). AreAhead os r) (fun_ext (λ answers. then_assoc (goes_on_with c w (on answers t)) left leave)) (h t r v f leave)))
+
+-- a cycle is all
+pub cycle_alone : (c : Context) (w : Operation) (k : Command) → one_operation w ≡ Some (wanted.Cycle k) → (s : State) → goes_on_with c w s ≡ ends s
+cycle_alone c (makes j) k e s = refl
+cycle_alone c (reads j x bits) k e s = refl
+cycle_alone c (locks j body) k e s = absurd (cc)
+cycle_alone c (transfers course f table x) k e s = refl
+cycle_alone c pauses k e s = refl
 
 -- ---- what is known
 
@@ -193,16 +246,13 @@ module _ {V D C : ℕ} (h : Machine V D C) where
   abbrev ctx : Context
   ctx = context_in h.checked.now
 
-  pub following_ahead : (w : Pending) (k : Command) (os : List Wanted) (fed n : ℕ) (has : Bool) (o : Option Overrun) (d : Crates) (limit : ℕ) → cycle_of (pending_of w) ≡ Some k → ((answers : List Answer) → IsFineHere h (stands (Some w) h answers))
-      → ((t : State) → t.registers ≡ registers_here h → After (pending_of w) (variables_here h) t.variables → LeadsTo h.checked.now.plan (bounds_of h) (left_in h) t os)
-      → AreAhead (wanted.Cycle k ∷ os) (rest (runner_state h (Some w) fed n has o d limit))
+  pub following_ahead : (w : Pending) (o : Wanted) (os : List Wanted) (fed n : ℕ) (has : Bool) (over : Option Overrun) (d : Crates) (limit : ℕ) → one_operation (pending_of w) ≡ Some o → ((answers : List Answer) → IsFineHere h (stands (Some w) h answers))
+      → ((t : State) → t.registers ≡ registers_here h → After (pending_of w) (variables_here h) t.variables → LeadsTo h.checked.now.plan (bounds_of h) (λ s. then_do (goes_on_with ctx (pending_of w) s) (left_in h)) t os)
+      → AreAhead (o ∷ os) (rest (runner_state h (Some w) fed n has over d limit))
   unfolding served
-  following_ahead w k os fed n has o d limit e fine ahead =
-      let leave : State → Behaviour (Unit {0}) = λ s. does (event_left (event_of (bit_at h.checked.now h.service) s)) (onward ctx h.checked.now.script.services s.branch s.answers) in
-      subst (λ (r : List Answer → Behaviour (Unit {0})). AreAhead (wanted.Cycle k ∷ os) r)
-      (sym (fun_ext (λ answers. then_assoc (awaited ctx (pending_of w) (state_of h answers)) (left_in h) leave)))
-      (operation_ahead ctx (bounds_of h) (pending_of w) k (state_of h []) (λ t. then_do (left_in h t) leave) (left_in h) os e fine
-      (λ t r v f. ahead t r v f leave))
+  following_ahead w o os fed n has over d limit e fine ahead =
+      operation_leads ctx (bounds_of h) (pending_of w) o (state_of h []) (left_in h) os e ahead fine
+      (λ s. does (event_left (event_of (bit_at h.checked.now h.service) s)) (onward ctx h.checked.now.script.services s.branch s.answers))
 
 -- what is wanted is ahead
 pub more_ahead : (h : RunnerState) (o p : Wanted) (os : List Wanted) → Wants h (Some o) → AreAhead (p ∷ os) (rest h) → AreAhead (o ∷ os) (rest h)

@@ -5,29 +5,30 @@ use Rattle.std.specs.Prelude.{IsSomeAnd, slice_get, slice_index_or, unwrap_or}
 use Rattle.std.proofs.lemmas.List.{drop_all, take-take}
 use Rattle.camac_branch.specs.Address.{Address}
 use Rattle.camac_branch.specs.Branch.{Answer}
-use Rattle.camac_branch.specs.Plan.{Layout}
+use Rattle.camac_branch.specs.Plan.{Layout, crate_waits}
 use Rattle.camac_branch.specs.declared.answer.Command.{Command}
 use Rattle.camac_checked.specs.Checked.{CheckedScript}
-use Rattle.camac_lang.specs.Tree.{Block, next, call, for_, Expression, Keep, Procedure, Statement}
+use Rattle.camac_lang.specs.Tree.{Block, next, call, for_, locked, Expression, Keep, Procedure, Statement}
 use Rattle.camac_lang.specs.View.{statement_of, statements_of}
 use Rattle.camac_lang.specs.declared.spot.Spot.{Spot}
 use Rattle.camac_lang.specs.declared.tree.Stmt.{Stmt}
 use Rattle.camac_model.specs.Behaviour.{Behaviour, ends, stops, more, wrong, Action, then_do, given}
+use Rattle.camac_model.specs.Cycle.{release, take_lock}
 use Rattle.camac_model.specs.Fine.{Bounds, IsFine, most_turns}
 use Rattle.camac_model.specs.Meaning.{Context, context, arguments, block_meaning, effect, enter, entered, returned, for_from, for_state, for_turns}
 use Rattle.camac_model.specs.State.{State, Registers, Variables, stepped, with_variable}
 use Rattle.camac_model.specs.Value.{value, values, value_and}
 use Rattle.camac_model.proofs.Runs.{then_assoc}
-use Rattle.camac_machine.specs.Rest.{awaited}
+use Rattle.camac_machine.specs.Rest.{awaited, locks}
 use Rattle.camac_machine.proofs.Procedures.{before, routine_of, taken_at}
 use Rattle.camac_run.specs.Ahead.{AreAhead}
-use Rattle.camac_run.specs.Sure.{KnowsVariables, KnowsRegisters, HasValue, IsKnown, on, MakesCycle, PassesFrom, IsSure, context_before, LeadsTo, Leads, Goes, Adds}
+use Rattle.camac_run.specs.Sure.{KnowsVariables, KnowsRegisters, HasValue, IsKnown, goes_on_with, on, MakesCycle, PassesFrom, IsSure, context_before, LeadsTo, Leads, Goes, Adds}
 use Rattle.camac_run.specs.declared.ahead.Known.{Known}
 use Rattle.camac_run.specs.declared.sure.Sure.{Sure}
 use Rattle.camac_run.specs.declared.sure.Sure.TheVariants as sure
 use Rattle.camac_run.specs.declared.progress.Wanted.{Wanted}
 use Rattle.camac_run.specs.declared.progress.Wanted.TheVariants as wanted
-use Rattle.camac_run.proofs.Coming.{knows_set, operation_ahead}
+use Rattle.camac_run.proofs.Coming.{cycle_alone, knows_set, operation_leads}
 
 -- all that it makes, and what it makes first
 abbrev pub Makes : Layout → Action → Known → List Wanted → Known → Type 0
@@ -138,16 +139,15 @@ module _ (c : Context) (st : Statement) (k k' : Known) (old new : List Wanted) w
       leads bounds around os h s known =
           leads_along c.plan bounds (λ u. then_do (effect c most_turns st u) around) (λ u. then_do (awaited c m.operation u) around) s s (wanted.Cycle command ∷ os)
           (λ answers. ap (λ (b : Behaviour State). then_do b around) (m.begins (on answers s) (record { variables_are = known.variables_are; registers_are = known.registers_are })))
-          (λ fine leave.
-          subst (λ (r : List Answer → Behaviour (Unit {0})). AreAhead (wanted.Cycle command ∷ os) r)
-          (sym (fun_ext (λ answers. then_assoc (awaited c m.operation (on answers s)) around leave)))
-          (operation_ahead c bounds m.operation command s (λ t. then_do (around t) leave) around os m.is_cycle fine
-          (λ t e v f.
-          h t
+          (operation_leads c bounds m.operation (wanted.Cycle command) s around os m.is_cycle
+          (λ t e v.
+          leads_along c.plan bounds (λ u. then_do (goes_on_with c m.operation u) around) around t t os
+          (λ answers. ap (λ (b : Behaviour State). then_do b around) (cycle_alone c m.operation command m.is_cycle (on answers t)))
+          (h t
           (record {
             variables_are = m.known s.variables t.variables known.variables_are v;
             registers_are = subst (λ (rs : List (Option Address)). KnowsRegisters rs t.registers) (sym same) (subst (λ (g : Registers). KnowsRegisters k.registers g) (sym e) known.registers_are);
-          }) f leave)))
+          }))))
 
   pub sure_adds : (its : Sure) (command : Command) → IsSure c k.variables k.registers st its k'.variables k'.registers → its ≡ sure.Makes command → new ≡ old ++ wanted.Cycle command ∷ [] → Adds c.plan (effect c most_turns st) k old true k' new
   sure_adds its command i is e =
@@ -158,6 +158,41 @@ module _ (c : Context) (st : Statement) (k k' : Known) (old new : List Wanted) w
   none_adds its i is e =
       let n : IsSure c k.variables k.registers st sure.NeedsNone k'.variables k'.registers = subst (λ (x : Sure). IsSure c k.variables k.registers st x k'.variables k'.registers) is i in
       adds_passing c.plan k k' (effect c most_turns st) old new e n
+
+-- ---- a lock
+
+-- what it makes first
+goes_first : (plan : Layout) (go : Action) (k k' k2 : Known) (made : List Wanted) (all : Bool) → Goes plan go k made all k' → Goes plan go k made false k2
+goes_first plan go k k' k2 made false h = h
+goes_first plan go k k' k2 made true h = λ bounds around. subst (λ os. Leads plan bounds k (λ s. then_do (go s) around) os) (append-nil made) (h bounds around [] (λ s known fine leave. tt))
+
+module _ (c : Context) (n : ℕ) (body : Block) (k k' : Known) where
+  -- behind it its block, and the release
+  pub leads_inside : (bounds : Bounds) (around : Action) (made : List Wanted) (all : Bool) → Goes c.plan (block_meaning c most_turns body) k made all k' → Leads c.plan bounds k (λ u. then_do (goes_on_with c (locks n body) u) around) made
+  leads_inside bounds around made all h t known =
+      leads_along c.plan bounds (λ u. then_do (goes_on_with c (locks n body) u) around) (λ u. then_do (block_meaning c most_turns body u) (λ v. then_do (release n v) around)) t t made
+      (λ answers. then_assoc (block_meaning c most_turns body (on answers t)) (release n) around)
+      (goes_first c.plan (block_meaning c most_turns body) k k' k made all h bounds (λ v. then_do (release n v) around) t known)
+
+  pub adds_lock : (spot : Spot) (e : Expression) (k2 : Known) (old mid new : List Wanted) (all : Bool) → HasValue k.variables e n → mid ≡ old ++ wanted.Lock n ∷ [] → Adds c.plan (block_meaning c most_turns body) k mid all k' new → Adds c.plan (effect c most_turns (locked spot e body)) k old false k2 new
+  unfolding awaited
+  adds_lock spot e k2 old mid new all has is a = (wanted.Lock n ∷ a.0, a.1 ∙ ap (λ l. l ++ a.0) is ∙ append_assoc old (wanted.Lock n ∷ []) a.0, leads)
+    where
+      begins : (s : State) → IsKnown k.variables k.registers s → effect c most_turns (locked spot e body) s ≡ awaited c (locks n body) s
+      begins s known =
+          ap (λ o. given o (λ j. given (crate_waits c.plan j) (λ waits t. take_lock j waits (t.branch j).locked (λ u. then_do (block_meaning c most_turns body u) (release j)) t)) s) (has s.variables known.variables_are)
+
+      leads : Goes c.plan (effect c most_turns (locked spot e body)) k (wanted.Lock n ∷ a.0) false k2
+      leads bounds around s known =
+          leads_along c.plan bounds (λ u. then_do (effect c most_turns (locked spot e body) u) around) (λ u. then_do (awaited c (locks n body) u) around) s s (wanted.Lock n ∷ a.0)
+          (λ answers. ap (λ (b : Behaviour State). then_do b around) (begins (on answers s) (record { variables_are = known.variables_are; registers_are = known.registers_are })))
+          (operation_leads c bounds (locks n body) (wanted.Lock n) s around a.0 refl
+          (λ t e v.
+          leads_inside bounds around a.0 all a.2 t
+          (record {
+            variables_are = subst (λ (g : Variables). KnowsVariables k.variables g) (sym v) known.variables_are;
+            registers_are = subst (λ (g : Registers). KnowsRegisters k.registers g) (sym e) known.registers_are;
+          })))
 
 -- a statement is a step
 adds_stepped : (plan : Layout) (k k' : Known) (go : Action) (old new : List Wanted) (all : Bool) → Adds plan go k old all k' new → Adds plan (λ s. go (stepped s)) k old all k' new

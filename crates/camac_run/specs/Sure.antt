@@ -8,10 +8,11 @@ use Rattle.camac_checked.specs.Checked.{CheckedScript}
 use Rattle.camac_lang.specs.Tree.{Condition, Expression, Statement}
 use Rattle.camac_model.specs.Behaviour.{Behaviour, ends, stops, wrong, Action, decide, then_do}
 use Rattle.camac_model.specs.Fine.{Bounds, IsFine, most_turns}
-use Rattle.camac_model.specs.Meaning.{Context, context, effect}
+use Rattle.camac_model.specs.Cycle.{release}
+use Rattle.camac_model.specs.Meaning.{Context, block_meaning, context, effect}
 use Rattle.camac_model.specs.State.{State, Registers, Variables, set_at}
 use Rattle.camac_model.specs.Value.{truth, value}
-use Rattle.camac_machine.specs.MachineState.{bounds_of, left_in, registers_here, variables_here}
+use Rattle.camac_machine.specs.MachineState.{bounds_of, context_in, left_in, registers_here, variables_here}
 use Rattle.camac_machine.specs.Rest.{Operation, makes, reads, locks, transfers, pauses, awaited}
 use Rattle.camac_machine.specs.declared.machine.Machine.{Machine}
 use Rattle.camac_run.specs.Ahead.{AreAhead}
@@ -20,6 +21,7 @@ use Rattle.camac_run.specs.declared.ahead.Known.{Known}
 use Rattle.camac_run.specs.declared.sure.Sure.{Sure}
 use Rattle.camac_run.specs.declared.sure.Sure.TheVariants as sure
 use Rattle.camac_run.specs.declared.progress.Wanted.{Wanted}
+use Rattle.camac_run.specs.declared.progress.Wanted.TheVariants as wanted
 
 -- what is known of values by their numbers is so
 abbrev pub Knows : {A B : Type 0} → (A → B) → List (Option A) → (ℕ → B) → Type 0
@@ -43,19 +45,27 @@ HasValue known e n = (all : Variables) → KnowsVariables known all → value e 
 abbrev pub HasTruth : List (Option ℕ) → (Variables → (q x : Bool) → Option Bool) → Bool → Type 0
 HasTruth known holds b = (all : Variables) (q x : Bool) → KnowsVariables known all → holds all q x ≡ Some b
 
--- the command of a single cycle
-abbrev pub cycle_of : Operation → Option Command
-cycle_of (makes k) = Some k
-cycle_of (reads k x bits) = Some k
-cycle_of (locks k body) = None
-cycle_of (transfers course f table x) = None
-cycle_of pauses = None
+-- the operation that one answer makes; a transfer may make more
+abbrev pub one_operation : Operation → Option Wanted
+one_operation (makes k) = Some (wanted.Cycle k)
+one_operation (reads k x bits) = Some (wanted.Cycle k)
+one_operation (locks k body) = Some (wanted.Lock k)
+one_operation (transfers course f table x) = None
+one_operation pauses = None
 
--- the variables after a single cycle
+-- what goes on with it: behind a lock that is taken its block, and the release
+abbrev pub goes_on_with : Context → Operation → Action
+goes_on_with c (locks k body) s = then_do (block_meaning c most_turns body s) (release k)
+goes_on_with c (makes k) s = ends s
+goes_on_with c (reads k x bits) s = ends s
+goes_on_with c (transfers course f table x) s = ends s
+goes_on_with c pauses s = ends s
+
+-- the variables after it
 abbrev pub After : Operation → (before after : Variables) → Type 0
 After (makes k) before after = after ≡ before
 After (reads k x bits) before after = (v : ℕ) × (after ≡ set_at x v before)
-After (locks k body) before after = ⊥
+After (locks k body) before after = after ≡ before
 After (transfers course f table x) before after = ⊥
 After pauses before after = ⊥
 
@@ -66,7 +76,7 @@ on answers s = record s { answers = answers }
 -- the statement makes this cycle alone, and no more is known of the variables after it
 pub record MakesCycle (c : Context) (variables : List (Option ℕ)) (registers : List (Option Address)) (st : Statement) (k : Command) (after : List (Option ℕ)) : Type 0 where
   pub operation : Operation
-  pub is_cycle : cycle_of operation ≡ Some k
+  pub is_cycle : one_operation operation ≡ Some (wanted.Cycle k)
   pub begins : (s : State) → IsKnown variables registers s → effect c most_turns st s ≡ awaited c operation s
   pub known : (f g : Variables) → KnowsVariables variables f → After operation f g → KnowsVariables after g
 
@@ -133,4 +143,5 @@ abbrev pub AddsFollowing : {V D C : ℕ} → Machine V D C → Operation → (ol
 AddsFollowing h w old new =
     (added : List Wanted)
     × (new ≡ old ++ added)
-    × ((t : State) → t.registers ≡ registers_here h → After w (variables_here h) t.variables → LeadsTo h.checked.now.plan (bounds_of h) (left_in h) t added)
+    × ((t : State) → t.registers ≡ registers_here h → After w (variables_here h) t.variables
+    → LeadsTo h.checked.now.plan (bounds_of h) (λ s. then_do (goes_on_with (context_in h.checked.now) w s) (left_in h)) t added)

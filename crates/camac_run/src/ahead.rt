@@ -1,23 +1,28 @@
-// The cycles that surely follow the one that a service in progress waits for.
+// The operations that surely follow the one that a service in progress waits for.
 
-ghost use Rattle.std.specs.Prelude.{◌≡◌, ◌+◌, ◌-◌, ◌<◌, ◌≤◌, ℕ, Option, None, IfSome, IsSome, IsSomeAnd, Some, true, false, map, replicate, slice_get, slice_index_or, []};
+ghost use Rattle.std.specs.Prelude.{◌≡◌, ◌+◌, ◌-◌, ◌<◌, ◌≤◌, ℕ, Option, None, IfSome, IsSome, IsSomeAnd, Some, true, false, map, replicate, slice_get, slice_index_or, [], ◌∷◌, ◌++◌};
 ghost use Rattle.arrayvec.specs.ArrayVec.{array_vec_len};
+ghost use Rattle.camac_lang.specs.Tree.{locked};
 ghost use Rattle.camac_lang.specs.View.{call_of, condition_of, expression_of, for_of, statement_of, statements_of};
+ghost use Rattle.camac_lang.specs.declared.spot.Spot.{Spot};
 ghost use Rattle.camac_machine.specs.MachineState.{context_in, opens_of, owner_in, pending_of};
 ghost use Rattle.camac_machine.specs.Rest.{owed, rest_in};
 ghost use Rattle.camac_machine.specs.Store.{held_at, registers_in, variables_in};
 ghost use Rattle.camac_model.specs.Fine.{most_turns};
 ghost use Rattle.camac_model.specs.Meaning.{Context, block_meaning, effect, for_from, for_state, for_turns};
 ghost use Rattle.camac_model.specs.State.{Variables, stepped};
-ghost use Rattle.camac_run.specs.Sure.{KnowsVariables, KnowsRegisters, KnowsLess, HasValue, After, cycle_of, chooses, context_of, Adds, AddsFollowing, Goes};
+ghost use Rattle.camac_run.specs.Sure.{KnowsVariables, KnowsRegisters, KnowsLess, HasValue, After, chooses, context_of, Adds, AddsFollowing, Goes, one_operation};
+ghost use Rattle.camac_run.specs.declared.progress.Wanted.TheVariants.{Lock};
 
 use crate::progress::Wanted;
-use crate::sure::{Sure, known_of, note, truth_of, value_of};
+use crate::sure::{Sure, crate_of, known_of, note, truth_of, value_of};
 use arrayvec::ArrayVec;
+use camac_branch::Command;
 use camac_checked::Checked;
 use camac_esone::Address;
 use camac_lang::{Cond, Expr, ForHead, ProcedureCall, Stmt, limits};
 use camac_machine::{Frame, Machine, Owner, Pending, Places, Scope};
+use camac_word::CrateNo;
 
 /// The most operations that are told ahead.
 pub const AHEAD: usize = 64;
@@ -92,6 +97,18 @@ impl Coming {
         self.steps -= steps as u32;
         true
     }
+
+    // Takes the lock of a crate. A list may hold commands, and the prover wants their type among the function's own.
+    fn lock(&mut self, c: CrateNo)
+        requires { array_vec_len self.old.ahead < 64 }
+        ensures { self.new.ahead.items ≡ self.old.ahead.items ++ Lock c ∷ [] }
+    {
+        let none: Option<Command> = None;
+        match none {
+            Some(command) => self.ahead.push(Wanted::Cycle(command)),
+            None => self.ahead.push(Wanted::Lock(c)),
+        }
+    }
 }
 
 impl<'a> Inside<'a> {
@@ -126,12 +143,17 @@ pub fn add_following<const V: usize, const DEPTH: usize, const CAP: usize>(
     pending: &Pending,
     coming: &mut Coming,
 )
-    requires { IsSome (cycle_of (pending_of pending.now)) }
+    requires { IsSome (one_operation (pending_of pending.now)) }
     ensures { AddsFollowing machine.now (pending_of pending.now) coming.old.ahead.items coming.new.ahead.items }
 {
     let mut known = Known::nothing();
     known.see(&machine.scope, &machine.variables, &machine.registers);
     forget_read(pending, &mut known.variables);
+    if let Pending::Lock { body, .. } = pending {
+        let inside = Inside::of_all(machine.checked);
+        add_block(&inside, body, &mut known, coming);
+        return;
+    }
     add_open(machine, machine.frames.as_slice(), &mut known, coming);
 }
 
@@ -273,6 +295,10 @@ fn add_statement(
             ..
         } => add_from(inside, *variable, *first, *last, body, known, coming),
         Stmt::Call(call) => add_call(inside, call, known, coming),
+        Stmt::Lock { crate_no, body, .. } => {
+            add_lock(inside, crate_no, body, known, coming);
+            false
+        }
         Stmt::If { test, then, .. } => add_if(inside, test, then, &[], known, coming),
         Stmt::IfElse {
             test,
@@ -302,6 +328,28 @@ fn add_simple(inside: &Inside<'_>, statement: &Stmt, known: &mut Known, coming: 
         Sure::NeedsNone => true,
         Sure::Unknown => false,
     }
+}
+
+// `lock`: adds taking it, and what its block surely makes. Its release ends a list.
+#[cycle(walk)]
+fn add_lock(
+    inside: &Inside<'_>,
+    crate_no: &Expr,
+    body: &[Stmt],
+    known: &mut Known,
+    coming: &mut Coming,
+)
+    requires { array_vec_len coming.old.ahead < 64 }
+    ensures { (spot : Spot) → Adds inside.now.checked.now.plan (effect (context_of inside.now) most_turns (locked spot (expression_of crate_no.now) (statements_of body.now))) known.old coming.old.ahead.items false known.new coming.new.ahead.items }
+{
+    let Some(c) = crate_of(crate_no, &known.variables) else {
+        return;
+    };
+    if inside.depth == 0 {
+        return;
+    }
+    coming.lock(c);
+    add_block(&inside.within(inside.procedures), body, known, coming);
 }
 
 // `if`: the arm that is taken. If that is not known, none of both is to make an operation.

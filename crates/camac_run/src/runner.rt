@@ -15,7 +15,7 @@ ghost use Rattle.camac_run.specs.Holds.{HoldsAfter};
 ghost use Rattle.camac_run.specs.Operation.{IsWaiting, Wants, operation};
 ghost use Rattle.camac_run.specs.Place.{IsPlace};
 ghost use Rattle.camac_run.specs.Requested.{IsSafeRequest, held_in};
-ghost use Rattle.camac_run.specs.Sure.{cycle_of};
+ghost use Rattle.camac_run.specs.Sure.{one_operation};
 ghost use Rattle.camac_run.specs.Transfer.{IsLeft, is_transfer};
 ghost use Rattle.camac_run.specs.Waits.{GoesOnUpTo, waits_in, waits_of};
 
@@ -349,7 +349,7 @@ impl<'a, const V: usize, const DEPTH: usize, const CAP: usize> Runner<'a, V, DEP
         let Some(pending) = &self.pending else {
             return coming.ahead;
         };
-        if !is_one_cycle(pending) {
+        if !is_one(pending) {
             return coming.ahead;
         }
         add_following(&self.machine, pending, &mut coming);
@@ -513,14 +513,14 @@ fn is_pause(pending: &Pending) -> bool
     }
 }
 
-// Whether a single cycle is waited for.
-fn is_one_cycle(pending: &Pending) -> bool
-    ensures { result ≡ is_some (cycle_of (pending_of pending.now)) }
+// Whether what is waited for is one operation.
+fn is_one(pending: &Pending) -> bool
+    ensures { result ≡ is_some (one_operation (pending_of pending.now)) }
 {
     match pending {
         Pending::Cycle(_) => true,
         Pending::Read { .. } => true,
-        Pending::Lock { .. } => false,
+        Pending::Lock { .. } => true,
         Pending::Transfer(_) => false,
         Pending::Pause => false,
     }

@@ -132,6 +132,13 @@ fn compared(comparison: Cmp, a: u32, b: u32) -> bool
     }
 }
 
+// A crate, if it is known.
+pub fn crate_of(e: &Expr, known: &[Option<u32>]) -> Option<CrateNo>
+    ensures { IfSome result (HasValue known.now (expression_of e.now)) }
+{
+    CrateNo::new(value_of(e, known)?)
+}
+
 // What is known at a place.
 fn at_place<T: Copy>(known: &[Option<T>], place: usize) -> Option<T>
     ensures { result ≡ slice_index_or known.now place None }
@@ -198,7 +205,7 @@ fn word_of(size: WordSize, e: &Expr, known: &[Option<u32>]) -> Option<Word24>
 fn call_of_crate(action: &CrateAction, known: &[Option<u32>]) -> Option<Command>
     ensures { IfSome result (λ k. (c : Context) (registers : List (Option At)) → MakesCycle c known.now registers (crate_action_of action.now) k known.now) }
 {
-    let c = CrateNo::new(value_of(&action.crate_no, known)?)?;
+    let c = crate_of(&action.crate_no, known)?;
     Some(crate_call(action.call, c))
 }
 

@@ -1,16 +1,16 @@
-use Rattle.std.proofs.Common.{◌≡◌, List, length, Some, map, refl, sym, ap, subst, ◌∙◌, arith}
+use Rattle.std.proofs.Common.{◌≡◌, List, length, false, Some, map, refl, sym, ap, subst, ◌∙◌, arith}
 use Rattle.std.proofs.lemmas.List.{length-map}
 use Rattle.std.specs.Prelude.{slice_get}
-use Rattle.camac_lang.specs.Tree.{choose, choose_else, for_each}
+use Rattle.camac_lang.specs.Tree.{choose, choose_else, for_each, locked}
 use Rattle.camac_lang.specs.View.{call_of, condition_of, expression_of, for_of, keep_of, procedure_of, statement_of, statements_of}
 use Rattle.camac_model.specs.Fine.{most_turns}
 use Rattle.camac_model.specs.Meaning.{block_meaning, effect, for_state}
 use Rattle.camac_model.specs.State.{stepped}
 use Rattle.camac_machine.proofs.Lams.{procedure_at}
-use Rattle.camac_machine.proofs.Trees.{call_is, choose_else_is, choose_is, each_is, for_is}
+use Rattle.camac_machine.proofs.Trees.{call_is, choose_else_is, choose_is, each_is, for_is, lock_is}
 use Rattle.camac_run.specs.Sure.{Adds, chooses, context_of}
 use Rattle.camac_run.proofs.Arms.{adds_first_arm, adds_goes, adds_second_arm, goes_either}
-use Rattle.camac_run.proofs.Making.{ArePassed, adds_call, adds_for, adds_in_turn, adds_no_turns, adds_turns, adds_unknown, its_step, block_ends, block_goes_on, block_stops, turns_end, turns_go_on, turns_stop}
+use Rattle.camac_run.proofs.Making.{ArePassed, adds_call, adds_for, adds_in_turn, adds_lock, adds_no_turns, adds_turns, adds_unknown, its_step, block_ends, block_goes_on, block_stops, turns_end, turns_go_on, turns_stop}
 use Rattle.camac_run.specs.declared.ahead.Coming.{Coming}
 use Rattle.camac_run.specs.declared.ahead.Known.{Known}
 use Rattle.camac_run.specs.declared.progress.Wanted.{Wanted}
@@ -184,3 +184,27 @@ add_if-returns-else-holds t c =
     let truth_is = rw c.as_slice.ensures.value at c.in-Some.ensures in
     adds_second_arm x.plan (condition_of c.args.test.now) (block_meaning x most_turns (statements_of c.args.then.now)) (block_meaning x most_turns (statements_of c.args.otherwise.now)) c.args.known.now c.add_block-else-holds.new.known c.args.coming.now.ahead.items c.add_block-else-holds.new.coming.ahead.items c.add_block-else-holds.result c.in-Some.holds c.if-holds.false truth_is
     (rw c.within-arm.ensures at c.add_block-else-holds.ensures)
+
+pub add_statement-returns-in-Lock : goal.add_statement-returns-in-Lock
+add_statement-returns-in-Lock t c =
+    let w = c.in-Lock in
+    let mid = ap (λ (m : Coming). m.ahead.items) c.step.ensures in
+    rw (w.is, lock_is w.spot w.crate_no w.body)
+    (its_step (context_of c.args.inside.now) (locked w.spot (expression_of w.crate_no) (statements_of w.body.items)) c.args.known.now c.add_lock.new.known c.args.coming.now.ahead.items c.step.new.self.ahead.items c.add_lock.new.coming.ahead.items false mid (rw c.deref-in-Lock.ensures.value at (c.add_lock.ensures w.spot)))
+
+pub add_lock-returns : goal.add_lock-returns
+add_lock-returns t c =
+    let x = context_of c.args.inside.now in
+    let inner = rw c.within.ensures at c.add_block.ensures in
+    λ spot.
+    adds_lock x c.in-Some.c (statements_of c.args.body.now) c.args.known.now c.add_block.new.known spot (expression_of c.args.crate_no.now) c.add_block.new.known c.args.coming.now.ahead.items c.lock.new.self.ahead.items c.add_block.new.coming.ahead.items c.add_block.result c.in-Some.ensures c.lock.ensures inner
+
+pub add_lock-returns-in_default : goal.add_lock-returns-in_default
+add_lock-returns-in_default t c =
+    let x = context_of c.args.inside.now in
+    λ spot. adds_unknown x.plan c.args.known.now c.args.known.now (effect x most_turns (locked spot (expression_of c.args.crate_no.now) (statements_of c.args.body.now))) c.args.coming.now.ahead.items c.args.coming.now.ahead.items refl
+
+pub add_lock-returns-then-inside-eq0 : goal.add_lock-returns-then-inside-eq0
+add_lock-returns-then-inside-eq0 t c =
+    let x = context_of c.args.inside.now in
+    λ spot. adds_unknown x.plan c.args.known.now c.args.known.now (effect x most_turns (locked spot (expression_of c.args.crate_no.now) (statements_of c.args.body.now))) c.args.coming.now.ahead.items c.args.coming.now.ahead.items refl

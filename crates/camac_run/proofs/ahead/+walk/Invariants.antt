@@ -20,6 +20,9 @@ decreases-add_block l = 7 * l.inside.now.depth + 6
 abbrev pub decreases-add_statement : goal.decreases-add_statement
 decreases-add_statement l = 7 * l.inside.now.depth + 5
 
+abbrev pub decreases-add_lock : goal.decreases-add_lock
+decreases-add_lock l = 7 * l.inside.now.depth + 4
+
 abbrev pub decreases-add_if : goal.decreases-add_if
 decreases-add_if l = 7 * l.inside.now.depth + 4
 

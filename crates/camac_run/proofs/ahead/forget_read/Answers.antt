@@ -11,7 +11,7 @@ pub returns-in-Read : goal.returns-in-Read
 returns-in-Read c = λ f g k a. let its = rw c.in-Read.is at a in rw c.note.ensures (read_known c.args.variables.now f g c.in-Read.variable its.0 its.1 k)
 
 pub returns-in-Lock : goal.returns-in-Lock
-returns-in-Lock c = λ f g k a. let no = rw c.in-Lock.is at a in absurd no
+returns-in-Lock c = λ f g k a. let same = rw c.in-Lock.is at a in subst (λ (vs : Variables). KnowsVariables c.args.variables.now vs) (sym same) k
 
 pub returns-in-Transfer : goal.returns-in-Transfer
 returns-in-Transfer c = λ f g k a. let no = rw c.in-Transfer.is at a in absurd no
