@@ -13,8 +13,7 @@ use Rattle.camac_play.specs.Headline.{ReportSendsEventFile, PlayedSendsEventFile
 use Rattle.camac_lang.specs.Tree.{Script}
 use Rattle.camac_model.specs.Behaviour.{Event, Piece, demanded, cycled, lock_taken, lock_released, event_left, event_in, events_in, uses, piece_uses, pieces}
 use Rattle.camac_model.specs.Run.{the_run}
-use Rattle.camac_report.specs.Items.{unlock_text, unlock_texts}
-use Rattle.camac_report.specs.Requests.{request_text, live_text}
+use Rattle.camac_report.specs.Items.{unlock_text, unlock_texts, request_text, live_text}
 use Rattle.camac_machine.specs.declared.item.Item.{Item}
 use Rattle.camac_machine.specs.declared.item.Item.TheVariants as item
 use Rattle.camac_machine.specs.MachineState.{piece_of, Left}
