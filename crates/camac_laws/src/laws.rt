@@ -2,12 +2,11 @@
 
 ghost use Rattle.camac_laws.specs.Calls.{AcceptedCallsKeep, CallsKeepToRanges, GuardsOnlyStop, GuardsStop};
 ghost use Rattle.camac_laws.specs.Lower.{CostsGrow, CheckedHaveLeast, LeastAreLeast, RefusedHaveNone};
-ghost use Rattle.camac_laws.specs.Places.{RegistersHaveAddresses};
+ghost use Rattle.camac_laws.specs.ShownAddresses.{RegistersHaveAddresses, MissingAreShown, UndeclaredAreShown};
 ghost use Rattle.camac_laws.specs.Refused.{HeadingsAreShown, RefusedAtPlaces};
 ghost use Rattle.camac_laws.specs.Regions.{CommandsAreJudged, CostIsGreatest, StationsAreAll, WaitsMayCome, WidthsAreAll};
 ghost use Rattle.camac_laws.specs.Scans.{ScansAreJudged, WindowsAreCounted, WindowsAreDeclared, WindowsAreInstalled, MissingOverAreShown, UndeclaredOverAreShown};
 ghost use Rattle.camac_laws.specs.Shown.{ArgumentsAreShown, EachTurnsAreShown, ForTurnsAreShown, KeptAreShown, UnfitHaveOne, UnkeptHaveOne, WhileTurnsAreShown, ConditionsAreShown, ExpressionsAreShown, PartsAreShown};
-ghost use Rattle.camac_laws.specs.ShownAddresses.{MissingAreShown, UndeclaredAreShown};
 ghost use Rattle.camac_laws.specs.Values.{BlocksAreFit, ReadsAreAll, WritesAreFit};
 
 use camac_check::Checked;
