@@ -83,18 +83,18 @@ module _ {R : Type 0} (left : R → Option (List ℕ)) (src src' : PlanSource R)
 module _ (old new : List ℕ) (size : ℕ) {o o' : Option (List ℕ)} {code : ℕ} (items : List ℕ) (before : o ≡ Some []) (after : o' ≡ Some items) (r : Result Outcome ToolFault) (is_code : code ≡ engine_code r)
     (goes : GoesOut r items old new size) where
   -- of what was read this is known
-  module _ {T : Type 0} (WasRead : T → Type 0) (Says : T → Outcome → List ℕ → Type 0) (IsTooLong : Type 0) (Told : Outcome → List ℕ → Type 0) (IsLong : Type 0)
-      (known : (found : T) → WasRead found → (outcome : Outcome) (text : List ℕ) → Says found outcome text → Told outcome text) (long : IsTooLong → IsLong) where
-    answers : (q : Result Outcome ToolFault) → EngineAnswers WasRead Says IsTooLong (Some []) (Some items) q → GoesOut q items old new size → Answers Told IsLong (engine_code q) old new size
+  module _ {T : Type 0} (WasRead : T → Type 0) (Says : T → Outcome → List ℕ → Type 0) (IsTooLong : Type 0) (Tells : Outcome → List ℕ → Type 0) (IsLong : Type 0)
+      (known : (found : T) → WasRead found → (outcome : Outcome) (text : List ℕ) → Says found outcome text → Tells outcome text) (long : IsTooLong → IsLong) where
+    answers : (q : Result Outcome ToolFault) → EngineAnswers WasRead Says IsTooLong (Some []) (Some items) q → GoesOut q items old new size → Answers Tells IsLong (engine_code q) old new size
     answers (Ok outcome) h g = inl (outcome, items, known h.0 h.1 outcome items (subst (λ (text : List ℕ). Says h.0 outcome text) (sym h.2.2) h.2.1), refl, g)
     answers (Err fault.Write) h g = inr (inl (refl, g))
     answers (Err fault.Read) h g = inr (inl (refl, g))
     answers (Err fault.Memory) h g = inr (inl (refl, g))
     answers (Err fault.TooLong) h g = inr (inr (refl, long h.0, g))
 
-    told : EngineAnswers WasRead Says IsTooLong o o' r → Answers Told IsLong code old new size
+    told : EngineAnswers WasRead Says IsTooLong o o' r → Answers Tells IsLong code old new size
     told h =
-        subst (λ (n : ℕ). Answers Told IsLong n old new size) (sym is_code)
+        subst (λ (n : ℕ). Answers Tells IsLong n old new size) (sym is_code)
         (answers r (subst (λ (x : Option (List ℕ)). EngineAnswers WasRead Says IsTooLong x (Some items) r) before (subst (λ (x : Option (List ℕ)). EngineAnswers WasRead Says IsTooLong o x r) after h)) goes)
 
   module _ {R : Type 0} (left : R → Option (List ℕ)) (src src' : PlanSource R) (p : List ℕ) (is : IsText left src p) where

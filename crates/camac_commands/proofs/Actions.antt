@@ -67,16 +67,16 @@ pub told_at : (spot : Spot) (f : ℕ) (g : Region) (at : Address) → InRegion g
 told_at spot f g at h = or_left (nat_eq f f && lies_in g at) _ (and_from (nat_eq f f) (lies_in g at) (eq-eqb f f refl) (inside_lies g at h))
 
 listed_piece : (cs ds : List Command) → ((at : Address) (f : ℕ) → list_any (is_told at f) cs ≡ true → list_any (is_told at f) ds ≡ true) → (p : Piece) → IsListed cs nothing p → IsListed ds nothing p
-listed_piece cs ds more (demanded p v) h = tt
-listed_piece cs ds more (cycled at f d r w) h = more at f h
-listed_piece cs ds more (lock_taken c w) h = tt
-listed_piece cs ds more (lock_released c) h = tt
-listed_piece cs ds more (event_left e) h = tt
+listed_piece cs ds further (demanded p v) h = tt
+listed_piece cs ds further (cycled at f d r w) h = further at f h
+listed_piece cs ds further (lock_taken c w) h = tt
+listed_piece cs ds further (lock_released c) h = tt
+listed_piece cs ds further (event_left e) h = tt
 
 pub listed_more : (cs ds : List Command) → ((at : Address) (f : ℕ) → list_any (is_told at f) cs ≡ true → list_any (is_told at f) ds ≡ true) → (b : Behaviour State) → Listed cs b → Listed ds b
-listed_more cs ds more (does p b) h = (listed_piece cs ds more p h.0, listed_more cs ds more b h.1)
-listed_more cs ds more (ends s) h = tt
-listed_more cs ds more (stops w s) h = tt
+listed_more cs ds further (does p b) h = (listed_piece cs ds further p h.0, listed_more cs ds further b h.1)
+listed_more cs ds further (ends s) h = tt
+listed_more cs ds further (stops w s) h = tt
 
 -- a behaviour on the first list, and one on the second, are on both together
 pub listed_first : (cs ds : List Command) (b : Behaviour State) → Listed cs b → Listed (cs ++ ds) b

@@ -510,7 +510,7 @@ module _ (t : Telling) (plan : Layout) (script : Script) (ks : List Bounds) (lef
 -- The same over streams that may hold what they are given.
 module _ (gathers : Bool) (t : Telling) (plan : Layout) (script : Script) (left : Option Reading) (text : Option (List ℕ)) where
   pub stops_over : (a c : Outputs) (f : PlayFault) (r : Result Ending PlayFault) → r ≡ Err f → FeedsOver gathers t plan script left text a c (Err f) → PlaysOver gathers t plan script left text a c r
-  stops_over a c f r is (inl stops) = rw is (inl stops)
+  stops_over a c f r is (inl stopped) = rw is (inl stopped)
   stops_over a c f r is (inr (write, holds)) =
       let same : f ≡ fault.Write = cc in
       inr (is ∙ ap (λ (x : PlayFault). Err x) same, holds)
