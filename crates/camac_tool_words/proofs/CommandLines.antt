@@ -1,4 +1,4 @@
--- Faults of the words, what a command takes after one more argument, and numbers that words write one after the other.
+-- What command lines come to: their faults, what a command takes after one more argument, and numbers one after the other.
 use Rattle.std.proofs.Common.{◌≡◌, ◌<◌, ◌∙◌, ap, refl, subst, List, inl, inr, true, ap₂, false, ◌||◌, ℕ, zero, suc, ◌+◌, [], ◌∷◌, ◌++◌, map, drop, length, slice_index_or, sym, arith}
 use Rattle.clap.specs.Words.{App, HasKind, Row, Text, fault_of, is_simple_and_free, kind_of, subcommand_of, takes, AddsArg, Rule, app_of, rule_of, with_rule}
 use Rattle.clap.specs.declared.error.Error.{Error}
