@@ -25,6 +25,7 @@ use Rattle.camac_rules.specs.Accept.{Section, of_procedure, of_service, at_start
 use Rattle.camac_rules.specs.Procedures.{at_entry}
 use Rattle.camac_check_costs.specs.declared.bodies.Owner.{Owner}
 use Rattle.camac_check_costs.specs.declared.bodies.Owner.TheVariants as owner
+use Rattle.camac_check.proofs.Capped.{in_code}
 use Rattle.camac_check_rows.specs.declared.row.Row.{Row}
 use Rattle.camac_check_rows.specs.declared.inside.Weight.{Weight}
 use Rattle.camac_check_rows.specs.Weights.{once, turning, first_arm, second_arm, in_64_bits, inside_row}
