@@ -12,6 +12,7 @@ use Rattle.camac_explain.specs.Source.{shown_byte, source_of}
 use Rattle.camac_explain.specs.declared.finding.Finding.{Finding}
 use Rattle.camac_explain.specs.declared.finding.Finding.TheVariants.{Plan, Text, Link, Check}
 use Rattle.camac_explain.specs.declared.rule.Rule.TheVariants as of
+use Rattle.camac_explain.specs.declared.texts.TheConstants.{MORE}
 
 abbrev pub told_of : Finding → Told
 told_of (Plan rule) = rule_told (of.Plan rule)
@@ -24,7 +25,7 @@ line_of label text = label ++ text ++ codes "\n"
 
 abbrev pub advice_text : Told → (code : List ℕ) → List ℕ
 advice_text told code =
-    line_of (codes "Why: ") told.why ++ line_of (codes "Fix: ") told.fix ++ line_of (codes "More: docs/REFUSALS.md, ") code
+    line_of (codes "Why: ") told.why ++ line_of (codes "Fix: ") told.fix ++ line_of MORE.now code
 
 -- a sentence is one line, since a line feed would be shown as `?`
 abbrev pub sentence_line : Option (List ℕ) → List ℕ
@@ -34,7 +35,7 @@ sentence_line (Some sentence) = map shown_byte sentence ++ codes "\n"
 -- a fault's own hint is the fix, in place of what is told of the rule
 abbrev pub closing : (hint : Option (List ℕ)) → Told → (code : List ℕ) → List ℕ
 closing None told code = advice_text told code
-closing (Some hint) told code = codes "Fix: " ++ sentence_line (Some hint) ++ line_of (codes "More: docs/REFUSALS.md, ") code
+closing (Some hint) told code = codes "Fix: " ++ sentence_line (Some hint) ++ line_of MORE.now code
 
 abbrev pub explanation : (source : List ℕ) → (sentence hint : Option (List ℕ)) → Told → (code : List ℕ) → List ℕ
 explanation source sentence hint told code = source ++ sentence_line sentence ++ closing hint told code

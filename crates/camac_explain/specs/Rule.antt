@@ -8,6 +8,7 @@ use Rattle.camac_explain.specs.Explanation.{line_of}
 use Rattle.camac_explain.specs.Warning.{warning_code}
 use Rattle.camac_explain.specs.declared.rule.Rule.{Rule}
 use Rattle.camac_explain.specs.declared.rule.Rule.TheVariants.{Plan, Text, Link, Check, Answer, Event, Warning}
+use Rattle.camac_explain.specs.declared.texts.TheConstants.{MORE}
 
 abbrev pub rule_code : Rule → List ℕ × List ℕ
 rule_code (Plan rule) = plan_code rule
@@ -47,4 +48,4 @@ IsRuleText rule bytes =
     ++ line_of (codes "Why: ") (rule_told rule).why
     ++ fixes_of rule
     ++ example
-    ++ line_of (codes "More: docs/REFUSALS.md, ") (rule_code rule).0)
+    ++ line_of MORE.now (rule_code rule).0)

@@ -29,9 +29,9 @@ name found = quoted (shown found)
 
 -- what a function or a statement of this class does
 abbrev pub does : FunctionClass → List ℕ
-does class.Read = codes "reads"
-does class.Write = codes "writes"
-does class.Control = codes "moves no data"
+does class.Read = text.READS.now
+does class.Write = text.WRITES.now
+does class.Control = text.MOVES_NO_DATA.now
 
 abbrev pub sign_of : Operator → List ℕ
 sign_of Add = codes "+"

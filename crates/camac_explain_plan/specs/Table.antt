@@ -6,6 +6,7 @@ use Rattle.camac_plan.specs.declared.fault.PlanTable.{PlanTable}
 use Rattle.camac_plan.specs.declared.fault.PlanTable.TheVariants.{Top, ModuleType, Command, Crate, Station}
 use Rattle.camac_plan.specs.declared.key.PlanKey.{PlanKey}
 use Rattle.camac_plan.specs.declared.key.PlanKey.TheVariants as key
+use Rattle.camac_explain_plan.specs.declared.texts.TheConstants as text
 
 -- the table of this number in the array at a key
 abbrev pub item_at : (key : PlanKey) → (place : ℕ) → Members → Option Members
@@ -23,8 +24,8 @@ abbrev pub value_in : (top : Members) → PlanTable → PlanKey → Option Data
 value_in top table key = option_and_then (value_at key) (table_at top table)
 
 abbrev pub kind_of : PlanTable → List ℕ
-kind_of Top = codes "the plan itself"
-kind_of (ModuleType place) = codes "a `[[type]]`"
-kind_of (Command type_place place) = codes "a command"
-kind_of (Crate place) = codes "a `[[crate]]`"
-kind_of (Station crate_place place) = codes "a `[[crate.station]]`"
+kind_of Top = text.PLAN.now
+kind_of (ModuleType place) = text.TYPE.now
+kind_of (Command type_place place) = text.COMMAND.now
+kind_of (Crate place) = text.CRATE.now
+kind_of (Station crate_place place) = text.STATION.now
