@@ -1,5 +1,5 @@
--- What is told of a refused statement beside its rule.
-use Rattle.std.specs.Prelude.{ℕ, Bool, ◌||◌, List, [], ◌∷◌, ◌++◌, codes, decimal, flat_map, nat_lt, Option, Some, None, Result, Ok, Err, unwrap_or, if◌then◌else◌}
+-- What is told of a refused statement beside its rule, and what holds of that.
+use Rattle.std.specs.Prelude.{ℕ, Bool, ◌||◌, List, [], ◌∷◌, ◌++◌, codes, decimal, flat_map, nat_lt, Option, Some, None, Result, Ok, Err, unwrap_or, if◌then◌else◌, ◌≡◌, ◌⊎◌, true}
 use Rattle.std.specs.List.{concat}
 use Rattle.camac_branch.specs.Plan.{Layout, crate_waits}
 use Rattle.camac_lang.specs.declared.spot.Spot.{Spot}
@@ -12,7 +12,7 @@ use Rattle.camac_rules.specs.declared.rule.CheckRule.TheVariants as check
 use Rattle.camac_tokens.specs.Fault.{Fault as TextFault}
 use Rattle.camac_tokens.specs.Scanning.{tokens_of}
 use Rattle.camac_tokens.specs.declared.token.Token.{Token}
-use Rattle.camac_explain_case.specs.Address.{last_set, register_at}
+use Rattle.camac_explain_case.specs.Address.{last_set, register_at, sets}
 use Rattle.camac_explain_case.specs.declared.case.TheConstants.{SUB_ADDRESSES, WAITS}
 
 -- where a register was set
@@ -66,3 +66,21 @@ case_lines plan text check.StationNotInstalled s case = set_line text s
 case_lines plan text check.CommandNotDeclared s case = set_line text s ++ places_line plan case
 case_lines plan text check.TooManyCycles s case = waits_line plan
 case_lines plan text rule s case = []
+
+-- auxiliary controllers are told of too many cycles only where a crate of the plan has waits
+abbrev pub WaitsAreOfThePlan : Type 0
+WaitsAreOfThePlan =
+    (plan : Layout) (text : List ℕ) (s : Spot) (case : Case) → ((c : ℕ) → unwrap_or (crate_waits plan c) 0 ≡ 0)
+    → case_lines plan text check.TooManyCycles s case ≡ []
+
+-- one of these tokens, on this line, sets the register before the place where so many bytes are left, and none behind it does
+abbrev pub SetsLast : (left : ℕ) → (register : List ℕ) → (line : ℕ) → List Token → Type 0
+SetsLast left register line [] = ⊥
+SetsLast left register line (t ∷ ts) =
+    ((nat_lt left t.spot.left ≡ true) × (sets register t.kind ts ≡ true) × (t.spot.line ≡ line) × (last_set left register None ts ≡ None))
+    ⊎ SetsLast left register line ts
+
+-- the `cdreg` that is told is the last one before the statement
+abbrev pub SetsAreBefore : Type 0
+SetsAreBefore =
+    (left : ℕ) (register : List ℕ) (ts : List Token) (line : ℕ) → last_set left register None ts ≡ Some line → SetsLast left register line ts
