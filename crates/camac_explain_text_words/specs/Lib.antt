@@ -1,5 +1,4 @@
 pub mod Absent
 pub mod Forms
 pub mod Limits
-pub mod Parts
 pub mod Spelled
