@@ -13,8 +13,7 @@ use Rattle.camac_explain.specs.Explanation.{IsPlanExplanation, explanation_of, t
 use Rattle.camac_explain.specs.Sentence.{sentence_of}
 use Rattle.camac_explain.specs.declared.finding.Finding.{Finding}
 use Rattle.camac_explain.specs.declared.finding.Finding.TheVariants as finding
-use Rattle.camac_explain_text.specs.Sentence.{Said}
-use Rattle.camac_explain_text.specs.Text.{IsTextTold}
+use Rattle.camac_explain_text.specs.Sentence.{Said, IsTextTold}
 use Rattle.camac_engines.specs.Accepted.{Accepted, accepted}
 use Rattle.camac_engines.specs.Headings.{headed, headings_report}
 use Rattle.camac_engines.specs.Plan.{PlanFound}

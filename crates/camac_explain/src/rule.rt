@@ -3,9 +3,8 @@
 ghost use Rattle.std.specs.Prelude.{◌≡◌, ◌++◌, IfOk, OnOk, codes, map};
 ghost use Rattle.std.specs.List.{flat_map};
 ghost use Rattle.std.specs.Str.{str_eq_ignore_ascii_case};
-ghost use Rattle.camac_explain.specs.Explanation.{line_of};
-ghost use Rattle.camac_explain.specs.Rule.{Grows, IsRuleOf, IsRuleText, Names, fix_line, fixes_of, rule_code};
-ghost use Rattle.camac_explain.specs.Warning.{warning_code};
+ghost use Rattle.camac_explain.specs.Explanation.{line_of, Grows, IsRuleOf, IsRuleText, Names, fix_line, fixes_of, rule_code};
+ghost use Rattle.camac_explain.specs.Advice.{warning_code};
 ghost use Rattle.camac_lines.specs.Codes.{answer_code, check_code, event_code, link_code, plan_code, text_code};
 
 use crate::advice::{check_page, rule_advice};

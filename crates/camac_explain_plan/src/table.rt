@@ -3,7 +3,7 @@
 ghost use Rattle.std.specs.Prelude.{◌≡◌, option_map};
 ghost use Rattle.toml.specs.View.{table_view, view};
 ghost use Rattle.camac_plan.specs.Field.{value_at};
-ghost use Rattle.camac_explain_plan.specs.Table.{item_at, kind_of, table_at, value_in};
+ghost use Rattle.camac_explain_plan.specs.Path.{item_at, kind_of, table_at, value_in};
 
 use crate::texts;
 use camac_plan::{PlanKey, PlanTable};

@@ -1,5 +1,6 @@
 -- Mistakes that are made often, each with its sentence.
-use Rattle.std.specs.Prelude.{ℕ, Bool, false, ◌&&◌, ◌||◌, not, List, [], ◌∷◌, Option, Some, None, if◌then◌else◌}
+use Rattle.std.specs.Prelude.{ℕ, Bool, false, ◌&&◌, ◌||◌, not, List, [], ◌∷◌, Option, Some, None, if◌then◌else◌, ◌==◌, drop, is_none, length, nat_lt, take_while}
+use Rattle.std.specs.Char.{is_ascii_hexdigit}
 use Rattle.camac_tokens.specs.Words.{or_else}
 use Rattle.camac_tokens.specs.declared.fault.NameKind.{NameKind}
 use Rattle.camac_tokens.specs.declared.fault.NameKind.TheVariants as named
@@ -14,8 +15,19 @@ use Rattle.camac_text_cursor.specs.declared.choice.Choice.TheVariants as choice
 use Rattle.camac_explain_text_place.specs.Before.{begins_statement, first_of, in_body, is_in_brackets, is_kind, word_of}
 use Rattle.camac_explain_text_place.specs.Expected.{is_name as is_name_wanted, is_operator}
 use Rattle.camac_explain_text_place.specs.Place.{Place, adjoins_word, begins_statement_at, expects, is_assigned, last, needed}
+use Rattle.camac_explain_text_place.specs.Found.{kind_at}
 use Rattle.camac_explain_text.specs.declared.texts.TheConstants.{AFTER_ELSE, AFTER_INTO, AFTER_NOT, ANSWER, BEFORE_EACH, BEGINS_AS_0, COMPARES, DIVISOR, FLAG_ALONE, JOINED, NAMES_APART, NAME_LAM, NONE_BELOW_0, NO_BRACKETS, NO_CALL, NO_DASH, NO_NUMBER, ONE_READ, ONE_VALUE, OUTSIDE, REPEATED, SET_REGISTER, TABLE_READ, TWO_SIDES, WORDS_APART}
 use Rattle.camac_explain_text_words.specs.Spelled.{is_word}
+
+-- hexadecimal digits, and no token behind them
+abbrev pub is_number_alone : (text : List ℕ) → Bool
+is_number_alone text =
+    is_none (kind_at (drop (length (take_while is_ascii_hexdigit text)) text)) && nat_lt 0 (length (take_while is_ascii_hexdigit text))
+
+-- a text ends so behind a `#`
+abbrev pub ends_in_marked_number : (text : List ℕ) → Bool
+ends_in_marked_number [] = false
+ends_in_marked_number (b ∷ bs) = ((b == 35) && is_number_alone bs) || ends_in_marked_number bs
 
 -- a case, and what is told in it
 pub record Case : Type 0 where

@@ -17,7 +17,9 @@ use camac_word::{GlBit, Watched, WriteFault};
 use std::io::Write;
 
 const NOT_CLEARED: &str = "does not clear its look-at-me";
+
 const CLEARED_BY: &str = "cleared by ";
+
 const HIDDEN_BY: &str = "hidden by ";
 
 /// Writes a line for each service, in the order of their bits: its bound, its rate, the most cycles from its look-at-me to its beginning and to

@@ -1,7 +1,6 @@
 use Rattle.std.proofs.Common.{◌≡◌, ◌++◌, codes, ap, ◌∙◌}
 use Rattle.camac_explain.specs.Advice.{rule_told}
-use Rattle.camac_explain.specs.Explanation.{line_of}
-use Rattle.camac_explain.specs.Rule.{fixes_of, rule_code}
+use Rattle.camac_explain.specs.Explanation.{line_of, fixes_of, rule_code}
 use Rattle.camac_explain.specs.declared.texts.TheConstants.{MORE}
 use Rattle.camac_explain.proofs.Told.{rule_parts}
 use Rattle.camac_explain.proofs.rule.explain_rule.Goals as goal
