@@ -116,7 +116,7 @@ abbrev pub homes : List PlanTable
 homes = Top ∷ ModuleType 0 ∷ Command 0 0 ∷ Crate 0 ∷ Station 0 0 ∷ []
 
 abbrev pub has_key : List ℕ → PlanTable → Bool
-has_key k table = list_any (is_text k) (keys_of table)
+has_key k home = list_any (is_text k) (keys_of home)
 
 -- the first key of a list that is near, and the first table that has a key
 abbrev pub near_key : List ℕ → List PlanKey → Option PlanKey
@@ -132,7 +132,7 @@ hint_by None None = Nothing
 
 -- a near key of the table, or a table that has the key
 abbrev pub hint : List ℕ → PlanTable → Meant
-hint k table = hint_by (near_key k (keys_of table)) (home_of k homes)
+hint k home = hint_by (near_key k (keys_of home)) (home_of k homes)
 
 abbrev pub hint_text : Meant → List ℕ
 hint_text (Near near) = with MEANT.now (key_text near)
@@ -149,14 +149,14 @@ keys_from number count (key ∷ keys) =
     key_item (before_item number count (codes " and ")) key ++ keys_from (number + 1) count keys
 
 abbrev pub keys_text : PlanTable → List ℕ
-keys_text table = keys_from 0 (length (keys_of table)) (keys_of table)
+keys_text home = keys_from 0 (length (keys_of home)) (keys_of home)
 
 abbrev pub unknown_text : (top : Members) → PlanTable → (key : List ℕ) → List ℕ
-unknown_text top table key =
-    filled UNKNOWN.now (way_to top table None ∷ comma table ∷ quoted key ∷ hint_text (hint key table) ∷ kind_of table ∷ keys_text table ∷ [])
+unknown_text top home key =
+    filled UNKNOWN.now (way_to top home None ∷ comma home ∷ quoted key ∷ hint_text (hint key home) ∷ kind_of home ∷ keys_text home ∷ [])
 
 abbrev pub key_in : (top : Members) → PlanTable → (entry : ℕ) → Option (List ℕ)
-key_in top table entry = option_and_then (nth_key entry) (table_at top table)
+key_in top home entry = option_and_then (nth_key entry) (table_at top home)
 
 abbrev pub unknown_sentence : (top : Members) → PlanTable → (entry : ℕ) → Option (List ℕ)
-unknown_sentence top table entry = option_map (unknown_text top table) (key_in top table entry)
+unknown_sentence top home entry = option_map (unknown_text top home) (key_in top home entry)
