@@ -72,8 +72,8 @@ is_spelled_out _ = false
 -- a word right after a number, as in `0x1F`; a comment where a number may stand, as in `put #ff`
 unfoldable pub decimal_digits : Place → Option (List ℕ)
 decimal_digits p =
-    first_case (case (is_spelled_out p.token && (is_number (last p) && adjoins_word p)) DIGITS.now
-    ∷ case (expects p choice.Number && ends_in_marked_number p.text) MARKED.now ∷ [])
+    first_case ((is_spelled_out p.token && (is_number (last p) && adjoins_word p), DIGITS.now)
+    ∷ (expects p choice.Number && ends_in_marked_number p.text, MARKED.now) ∷ [])
 
 -- what a sign is taken for
 abbrev pub taken_for : Place → Sign → Option Sign
@@ -155,9 +155,9 @@ name_hint p wanted =
     (or_else (option_map (with MEANT.now) (near_word p))
     (or_else (option_map (λ d. with MEANT_NAME.now (quoted d.name)) (near p.bytes wanted p.before))
     (first_case (
-    case (is_kind wanted named.Variable && is_before p (codes "(")) (with CALLED.now (shown_text p.bytes))
-    ∷ case (is_kind wanted named.Variable && (not (is_assigned p) && is_hexadecimal p.bytes)) DIGITS.now
-    ∷ case (begins_line p && (begins_statement_at p && is_before_name p)) NO_STATEMENT.now
+    (is_kind wanted named.Variable && is_before p (codes "("), with CALLED.now (shown_text p.bytes))
+    ∷ (is_kind wanted named.Variable && (not (is_assigned p) && is_hexadecimal p.bytes), DIGITS.now)
+    ∷ (begins_line p && (begins_statement_at p && is_before_name p), NO_STATEMENT.now)
     ∷ []))))
 
 -- behind a name that is declared as another kind: what a procedure, a register or a LAM is for, in the place of a variable
@@ -165,10 +165,10 @@ unfoldable pub kind_hint : Place → (wanted is : NameKind) → Option (List ℕ
 kind_hint p wanted is =
     or_else
     (first_case (
-    case (is_kind wanted named.Variable && (is_kind is named.Procedure && begins_statement_at p)) (with CALLED.now (shown_text p.bytes))
-    ∷ case (is_kind wanted named.Variable && is_kind is named.Procedure) (with NO_RESULT.now (shown_text p.bytes))
-    ∷ case (is_kind wanted named.Variable && is_kind is named.Register) (with ADDRESS.now (shown_text p.bytes))
-    ∷ case (is_kind wanted named.Variable && is_kind is named.Lam) (with TESTED.now (shown_text p.bytes)) ∷ []))
+    (is_kind wanted named.Variable && (is_kind is named.Procedure && begins_statement_at p), with CALLED.now (shown_text p.bytes))
+    ∷ (is_kind wanted named.Variable && is_kind is named.Procedure, with NO_RESULT.now (shown_text p.bytes))
+    ∷ (is_kind wanted named.Variable && is_kind is named.Register, with ADDRESS.now (shown_text p.bytes))
+    ∷ (is_kind wanted named.Variable && is_kind is named.Lam, with TESTED.now (shown_text p.bytes)) ∷ []))
     (told_of_kind wanted is)
 
 -- a sign of the language that begins as one of another, as `..` does
@@ -192,9 +192,9 @@ is_set p w = is_assigned p && not (begins_statement w)
 unfoldable pub kept_word : Place → Keyword → Option (List ℕ)
 kept_word p w =
     first_case (
-    case (is_name_wanted p) (with OF_LANGUAGE.now (word_text w))
-    ∷ case (is_set p w && is_either word.Q word.X w) CYCLES_SET.now
-    ∷ case (is_set p w) (with OF_LANGUAGE.now (word_text w)) ∷ [])
+    (is_name_wanted p, with OF_LANGUAGE.now (word_text w))
+    ∷ (is_set p w && is_either word.Q word.X w, CYCLES_SET.now)
+    ∷ (is_set p w, with OF_LANGUAGE.now (word_text w)) ∷ [])
 
 abbrev pub own_of_word : Place → Keyword → Option (List ℕ)
 own_of_word p w = or_else (inside p w) (kept_word p w)

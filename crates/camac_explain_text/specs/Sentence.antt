@@ -22,14 +22,13 @@ use Rattle.camac_explain_text_place.specs.Expected.{expected_of, list_text}
 use Rattle.camac_text.specs.Expecting.{TellsAfter}
 use Rattle.camac_explain_text.specs.Byte.{byte_hint}
 use Rattle.camac_explain_text.specs.Hint.{absent_text, takes_text}
-use Rattle.camac_explain_text_words.specs.Limits.{limit_text}
+use Rattle.camac_explain_text_words.specs.Forms.{limit_text}
 use Rattle.camac_explain_text.specs.Meant.{kind_hint, name_hint, own_sentence, unexpected_hint, word_before}
 use Rattle.camac_explain_text.specs.Mistake.{outside_of_bodies}
 use Rattle.camac_explain_text.specs.declared.sentence.TextTold.{TextTold}
 use Rattle.camac_explain_text.specs.declared.texts.TheConstants.{ABOVE, ABOVE_ALL, BRANCH, BYTE, CHARACTER, COUNTER_KEPT, DIVISOR, END, EXPECTED, FOUND, HIDDEN, ITSELF, KEPT_TWICE, MEASURE_KEPT, MISSING, NO_LOCK, OTHER, OTHER_AT, TAKEN, TAKEN_AT, PLAN_FIRST}
 use Rattle.camac_sentence.specs.Filled.{filled, with}
-use Rattle.camac_explain_text_place.specs.Place.{Place, absent_word_at, begins_statement_at, declared_line, is_assigned, is_before, place_at}
-use Rattle.camac_explain_text_place.specs.Found.{kind_at, rest_of}
+use Rattle.camac_explain_text_place.specs.Place.{Place, absent_word_at, begins_statement_at, declared_line, is_assigned, is_before, place_at, kind_at, rest_of}
 
 abbrev pub noun : NameKind → List ℕ
 noun named.Lam = codes "LAM"

@@ -26,12 +26,19 @@ pub enum Group {
 }
 
 const DECLARATION: &str = "a declaration";
+
 const STATEMENT: &str = "a statement";
+
 const CONDITION: &str = "a condition";
+
 const EXPRESSION: &str = "an expression";
+
 const NUMBER: &str = "a number";
+
 const NAME: &str = "a name";
+
 const OPERATOR: &str = "an operator";
+
 const COMPARISON: &str = "a comparison";
 
 const GROUPS: [Group; 8] = [

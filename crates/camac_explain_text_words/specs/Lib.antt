@@ -1,4 +1,3 @@
 pub mod Absent
 pub mod Forms
-pub mod Limits
 pub mod Spelled
