@@ -2,7 +2,7 @@
 use Rattle.std.proofs.Common.{◌≡◌, ℕ, List, Option, None, refl, sym, ap}
 use Rattle.std.specs.Prelude.{Result, Err}
 use Rattle.camac_checked.specs.Checked.{CheckedScript}
-use Rattle.camac_explain.specs.Finding.{refusal_of}
+use Rattle.camac_explain.specs.Explanation.{refusal_of}
 use Rattle.camac_explain.specs.declared.finding.Finding.{Finding}
 use Rattle.camac_lines.specs.declared.refusal.Refusal.{Refusal}
 use Rattle.camac_response_times.specs.declared.setting.Settings.{Settings}

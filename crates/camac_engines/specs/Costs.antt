@@ -5,7 +5,7 @@ use Rattle.camac_branch.specs.Plan.{Layout}
 use Rattle.camac_rules.specs.Capped.{capped}
 use Rattle.camac_check_costs.specs.Bodies.{costs_with}
 use Rattle.camac_check_costs.specs.Texts.{costs_text}
-use Rattle.camac_explain.specs.Finding.{refusal_of}
+use Rattle.camac_explain.specs.Explanation.{refusal_of}
 use Rattle.camac_engines.specs.Accepted.{Accepted, accepted}
 use Rattle.camac_engines.specs.Report.{Report, refused}
 use Rattle.camac_engines.specs.declared.judging.Judged.{Judged}
