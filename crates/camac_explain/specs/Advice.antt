@@ -94,13 +94,9 @@ is_open n = nat_lt n.low n.high
 abbrev pub is_forgotten : Numbers → Bool
 is_forgotten n = is_open n && nat_eq n.high greatest
 
--- the greatest numbers have a sum
-abbrev pub has_room : (left right : Numbers) → Bool
-has_room left right = nat_le left.high (greatest - right.high)
-
--- a difference of two unknown numbers, whose form of its own fits
+-- a difference of two unknown numbers whose greatest have a sum: its form of its own fits
 abbrev pub is_difference : Case → Bool
-is_difference (Operation Sub left right) = is_open left && is_open right && has_room left right
+is_difference (Operation Sub left right) = is_open left && is_open right && nat_le left.high (greatest - right.high)
 is_difference case = false
 
 abbrev pub is_right_forgotten : Case → Bool

@@ -1,5 +1,5 @@
 -- The sentences on the rules of linking and of the checker, and the names in them.
-use Rattle.std.specs.Prelude.{ℕ, Bool, false, ◌&&◌, ◌==◌, List, Option, Some, None, option_map, option_and_then, slice_get, find, codes, true, [], ◌∷◌, ◌++◌, decimal, nat_eq, if◌then◌else◌}
+use Rattle.std.specs.Prelude.{ℕ, Bool, false, ◌&&◌, ◌==◌, List, Option, Some, None, option_map, option_and_then, slice_get, find, codes, true, [], ◌∷◌, ◌++◌, decimal, nat_eq, unwrap_or, if◌then◌else◌}
 use Rattle.camac_lang.specs.Tree.{Text, Lam, Parameter, Procedure, Service, Script}
 use Rattle.camac_rules.specs.declared.case.Body.{Body}
 use Rattle.camac_rules.specs.declared.case.Body.TheVariants as body
@@ -58,12 +58,8 @@ is_at crate_no station l = (l.crate_no == crate_no) && (l.station == station)
 abbrev pub first_lam : (crate_no station : ℕ) → List Lam → Option Text
 first_lam crate_no station lams = option_map (λ (l : Lam). l.name) (find (is_at crate_no station) lams)
 
-abbrev pub is_on : (crate_no station : ℕ) → Option Lam → Bool
-is_on crate_no station None = false
-is_on crate_no station (Some l) = is_at crate_no station l
-
 abbrev pub is_served_at : (crate_no station : ℕ) → List Lam → Service → Bool
-is_served_at crate_no station lams v = is_on crate_no station (slice_get lams v.lam)
+is_served_at crate_no station lams v = unwrap_or (option_map (is_at crate_no station) (slice_get lams v.lam)) false
 
 abbrev pub name_at : List Lam → ℕ → Option Text
 name_at lams place = option_map (λ (l : Lam). l.name) (slice_get lams place)

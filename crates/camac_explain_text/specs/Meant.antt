@@ -21,7 +21,7 @@ use Rattle.camac_explain_text_words.specs.Spelled.{is_hexadecimal, is_word, sign
 use Rattle.camac_explain_text_words.specs.declared.forms.TheConstants.{ASSIGNMENT}
 use Rattle.camac_explain_text_place.specs.Before.{Standing, begins_statement, called_in, declared, first_of, is_in_brackets, is_kind, near, open_line, wants_new_name, word_of}
 use Rattle.camac_explain_text.specs.Hint.{absent_text, no_arrow_text, takes_text}
-use Rattle.camac_explain_text.specs.Mistake.{ends_in_marked_number, case, first_case, is_either, told_of_kind, usual_mistake}
+use Rattle.camac_explain_text.specs.Mistake.{ends_in_marked_number, first_case, is_either, told_of_kind, usual_mistake}
 use Rattle.camac_explain_text.specs.declared.texts.TheConstants.{ADDRESS, BRACKETS, CALLED, CYCLES_SET, DIGITS, FORM, INSIDE, MARKED, MEANT, MEANT_BEFORE, MEANT_NAME, NO_RESULT, NO_STATEMENT, OF_LANGUAGE, OPEN, TESTED}
 use Rattle.camac_explain_text_place.specs.Place.{Place, absent_word_at, adjoins_word, begins_line, begins_statement_at, expects, is_assigned, is_before, is_before_name, last}
 

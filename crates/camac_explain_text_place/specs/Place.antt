@@ -1,5 +1,5 @@
 -- A place of a text at which a fault shows: the token there, what stands around it, and what may stand in its place.
-use Rattle.std.specs.Prelude.{ℕ, ◌-◌, List, [], ◌∷◌, drop, length, option_map, slice_get, take, take_while, Option, Some, None, if◌then◌else◌, ◌==◌, Bool, false, ◌&&◌, ◌||◌, nat_eq, not, codes, is_none, Result, Ok, Err}
+use Rattle.std.specs.Prelude.{ℕ, ◌-◌, List, [], ◌∷◌, drop, length, option_map, slice_get, unwrap_or, take, take_while, Option, Some, None, if◌then◌else◌, ◌==◌, Bool, false, ◌&&◌, ◌||◌, nat_eq, not, codes, is_none, Result, Ok, Err}
 use Rattle.std.specs.Char.{is_ascii_alphabetic, is_ascii_digit, is_ascii_whitespace}
 use Rattle.camac_tokens.specs.declared.token.Sign.{Sign}
 use Rattle.camac_tokens.specs.declared.token.Token.{Token}
@@ -118,13 +118,9 @@ expects p c = has p.noted c
 abbrev pub begins_statement_at : Place → Bool
 begins_statement_at p = expects p choice.Statement
 
-abbrev pub is_of_name : Option ℕ → Bool
-is_of_name (Some b) = is_name_byte b
-is_of_name None = false
-
 -- right after a name, a word or a number
 abbrev pub adjoins_word : Place → Bool
-adjoins_word p = is_of_name (slice_get p.text (length p.text - 1))
+adjoins_word p = unwrap_or (option_map is_name_byte (slice_get p.text (length p.text - 1))) false
 
 -- only blanks stand behind the last line feed
 abbrev pub ends_in_blanks : (is_blank_line : Bool) → (text : List ℕ) → Bool
