@@ -7,8 +7,7 @@ use Rattle.camac_explain.specs.declared.finding.Finding.{Finding}
 use Rattle.camac_lines.specs.declared.refusal.Refusal.{Refusal}
 use Rattle.camac_response_times.specs.declared.setting.Settings.{Settings}
 use Rattle.camac_response_times.specs.declared.source.Source.{Source}
-use Rattle.camac_response.specs.Checked.{AreTold, IsNoService}
-use Rattle.camac_response.specs.Kept.{AreKept}
+use Rattle.camac_response.specs.Checked.{AreTold, IsNoService, AreKept}
 use Rattle.camac_response.specs.Lines.{responses_text}
 use Rattle.camac_engines.specs.Engine.{Shows}
 use Rattle.camac_engines.specs.Report.{refused}
