@@ -32,8 +32,8 @@ use Rattle.camac_check_rows.specs.Turns.{merge, Turned, turned, turns_over, each
 use Rattle.camac_check_rows.specs.Rows.{found, block_verdict, Turning, turning_from, lock_inside, lock_head, simple_row, else_row, inside, times_at, statement_rows, block_rows}
 use Rattle.camac_check_costs.specs.Bodies.{rows_if, body_costs, costs_over, sections_of}
 use Rattle.camac_laws.specs.Made.{NoMore, InSteps, TimesInSteps}
-use Rattle.camac_laws.proofs.Turned.{begun, no_turn}
-use Rattle.camac_laws.proofs.Shares.{in_code, go_ok, ok_same}
+use Rattle.camac_laws.proofs.Sums.{begun, no_turn}
+use Rattle.camac_laws.proofs.Shares.{go_ok, ok_same}
 use Rattle.camac_lang.specs.declared.spot.Spot.{Spot}
 
 pub no_more_up : (m n : ℕ) (rs : List Row) → m ≤ n → NoMore m rs → NoMore n rs

@@ -16,7 +16,7 @@ use Rattle.camac_engines.specs.Found.{Found}
 use Rattle.camac_engines.specs.Plan.{PlanFound}
 use Rattle.camac_engines.specs.Report.{Reports, report_events}
 use Rattle.camac_engines.specs.Response.{NamesNone, TellsResponse}
-use Rattle.camac_engines.specs.Rule.{TellsRule}
+use Rattle.camac_engines.specs.Explain.{TellsRule}
 use Rattle.camac_engines.specs.declared.ask.Ask.{Ask}
 use Rattle.camac_engines.specs.declared.ask.Ask.TheVariants as ask
 use Rattle.camac_engines.specs.declared.ask.PlanAsk.{PlanAsk}
