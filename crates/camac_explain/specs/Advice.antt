@@ -1,4 +1,4 @@
--- What is told of each rule: why it is there, and what to do where it is broken. The texts stand with its code in src/pages.rt. And the code of each warning.
+-- What is told of each rule, and the code of each warning.
 use Rattle.std.specs.Prelude.{ℕ, List, codes, ◌-◌, ◌&&◌, ◌||◌, Bool, false, [], ◌∷◌, map, nat_eq, nat_lt, nat_le, if◌then◌else◌}
 use Rattle.camac_explain.specs.declared.rule.Warning.{Warning}
 use Rattle.camac_explain.specs.declared.texts.TheConstants as text

@@ -1,4 +1,4 @@
--- The tables of a plan by their places, and the way to one or to a key: types by their names, crates and stations by their numbers; else by their places in the text, as commands are.
+-- The tables of a plan, and the way to one or to a key of it.
 use Rattle.std.specs.Prelude.{ℕ, List, Option, Some, codes, option_and_then, ◌+◌, ◌^◌, ◌-◌, min, Bool, true, false, [], ◌++◌, None, decimal, option_map, slice_get, if◌then◌else◌}
 use Rattle.toml.specs.Data.{Data, Members, as_table, at, string, integer}
 use Rattle.camac_plan.specs.Field.{value_at}
