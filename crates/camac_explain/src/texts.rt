@@ -1,6 +1,6 @@
 // The texts of explanations. A `%` is a gap.
 
-// Of a code: behind this stands which.
+// Before a code, at the end of an explanation.
 pub const MORE: &str = "More: docs/REFUSALS.md, ";
 
 // Of a line that is shown.
