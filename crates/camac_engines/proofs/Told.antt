@@ -3,14 +3,13 @@ use Rattle.std.proofs.Common.{◌≡◌, ℕ, List, Option, Some, None, sym, ap,
 use Rattle.std.specs.Prelude.{Result, Ok, Err}
 use Rattle.camac_branch.specs.Plan.{Layout}
 use Rattle.camac_checked.specs.Checked.{CheckedScript}
-use Rattle.camac_explain.specs.Finding.{refusal_of}
+use Rattle.camac_explain.specs.Explanation.{refusal_of}
 use Rattle.camac_explain.specs.declared.finding.Finding.{Finding}
 use Rattle.camac_lines.specs.declared.refusal.Refusal.{Refusal}
 use Rattle.camac_lines.specs.Verdict.{verdict_text}
 use Rattle.camac_response_times.specs.declared.setting.Settings.{Settings}
 use Rattle.camac_response_times.specs.declared.source.Source.{Source}
-use Rattle.camac_response.specs.Checked.{AreTold, IsNoService}
-use Rattle.camac_response.specs.Kept.{AreKept}
+use Rattle.camac_response.specs.Checked.{AreTold, IsNoService, AreKept}
 use Rattle.camac_response.specs.Lines.{responses_text}
 use Rattle.camac_text.specs.Parser.{script_of}
 use Rattle.camac_lang.specs.Tree.{Script}

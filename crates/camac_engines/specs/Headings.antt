@@ -8,7 +8,7 @@ use Rattle.camac_text.specs.Parser.{script_of}
 use Rattle.camac_check.specs.Least.{least}
 use Rattle.camac_check.specs.declared.fault.LeastFault.{LeastFault}
 use Rattle.camac_check.specs.declared.fault.LeastFault.TheVariants as least_fault
-use Rattle.camac_explain.specs.Finding.{refusal_of}
+use Rattle.camac_explain.specs.Explanation.{refusal_of}
 use Rattle.camac_explain.specs.declared.finding.Finding.TheVariants as finding
 use Rattle.camac_lines.specs.Headings.{headings_text}
 use Rattle.camac_rules.specs.Capped.{capped}

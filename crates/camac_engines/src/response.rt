@@ -1,7 +1,7 @@
 // The engine of how long look-at-mes wait for their services.
 
 ghost use Rattle.std.specs.Prelude.{◌≡◌, ◌||◌, length};
-ghost use Rattle.camac_response.specs.Kept.{AreKept};
+ghost use Rattle.camac_response.specs.Checked.{AreKept};
 ghost use Rattle.camac_engines.specs.Engine.{is_write_fault, is_read_fault};
 ghost use Rattle.camac_engines.specs.Plan.{plan_failed};
 ghost use Rattle.camac_engines.specs.Response.{Responds, RespondsOn, SaysKept};

@@ -3,8 +3,7 @@ use Rattle.std.proofs.Common.{◌≡◌, ◌⊎◌, inl, inr, ℕ, Bool, true, f
 use Rattle.std.specs.Prelude.{◌&&◌, ◌||◌, nat_lt, unwrap_or, if◌then◌else◌, codes, decimal}
 use Rattle.std.specs.List.{concat}
 use Rattle.camac_tokens.specs.declared.token.Token.{Token}
-use Rattle.camac_explain_case.specs.Address.{last_set, sets}
-use Rattle.camac_explain_case.specs.Case.{case_lines, places_text, SetsAreBefore, SetsLast, WaitsAreOfThePlan}
+use Rattle.camac_explain_case.specs.Case.{last_set, sets, case_lines, places_text, SetsAreBefore, SetsLast, WaitsAreOfThePlan}
 use Rattle.camac_explain_case.specs.declared.case.TheConstants.{WAITS}
 
 none_of_two : (a b : Bool) → a ≡ false → b ≡ false → (a || b) ≡ false

@@ -3,7 +3,7 @@ use Rattle.std.specs.Prelude.{◌≡◌, ◌⊎◌, ℕ, Bool, true, false, List
 use Rattle.std.specs.Io.KnownBytes.{Keeps}
 use Rattle.clap.specs.Words.{Text}
 use Rattle.camac_event.specs.Reading.{file_at}
-use Rattle.camac_explain.specs.Rule.{IsRuleOf}
+use Rattle.camac_explain.specs.Explanation.{IsRuleOf}
 use Rattle.camac_explain.specs.declared.rule.Rule.{Rule}
 use Rattle.camac_play.specs.declared.telling.Telling.{Telling}
 use Rattle.camac_play.specs.declared.telling.Telling.TheVariants.{Listing, Requests}
