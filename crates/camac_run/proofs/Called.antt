@@ -9,7 +9,7 @@ use Rattle.camac_branch.specs.Crates.{branch_of}
 use Rattle.camac_branch.specs.Plan.{IsPlan}
 use Rattle.camac_checked.specs.Checked.{CheckedScript, IsChecked}
 use Rattle.camac_lang.specs.Tree.{Service}
-use Rattle.camac_model.specs.Behaviour.{Behaviour, does, ends, demanded, event_left, Action, then_do}
+use Rattle.camac_model.specs.Behaviour.{Behaviour, does, ends, Piece, demanded, event_left, Action, then_do}
 use Rattle.camac_model.specs.Fine.{most_turns}
 use Rattle.camac_model.specs.Meaning.{block_meaning}
 use Rattle.camac_model.specs.Run.{Chosen, event_of, service_for, service_meaning}
@@ -50,8 +50,14 @@ begin_known b answers = record { variables_are = λ i v e. all_zero 64 i v e; re
 pub begins_with_none : (c : CheckedScript) (i : ℕ) → BeginsWith c i []
 begins_with_none c i old new a pattern unlocks event same idle g = (tt, λ some. absurd (omega (arith, some)))
 
-number_of : (p q j i : ℕ) (f g : Behaviour (Unit {0})) → does (demanded p (Some j)) f ≡ does (demanded q (Some i)) g → j ≡ i
-number_of p q j i f g e = cc
+same_piece : (p q : Piece) (f g : Behaviour (Unit {0})) → does p f ≡ does q g → p ≡ q
+same_piece p q f g e = cc
+
+same_number : (p q j i : ℕ) → demanded p (Some j) ≡ demanded q (Some i) → j ≡ i
+same_number p q j i e = cc
+
+none_is_called : (p q i : ℕ) → demanded p None ≡ demanded q (Some i) → ⊥
+none_is_called p q i e = absurd (cc)
 
 module _ (c : CheckedScript) (checked : IsChecked c) (planned : IsPlan c.plan) (i : ℕ) (v : Service) (os : List Wanted) (there : slice_get c.script.services i ≡ Some v) (after : Known) (all : Bool) (adds : Adds c.plan (block_meaning (context_in c) most_turns v.body) at_begin [] all after os) where
   abbrev body : Action
@@ -88,15 +94,12 @@ module _ (c : CheckedScript) (checked : IsChecked c) (planned : IsPlan c.plan) (
 
       by : (o : Option Chosen) → service_for (context_in c) p c.script.services ≡ o → AreAhead os (rest new) × (0 < length os → (unlocks ≡ []) × (event ≡ None))
       by None e =
-          let first : does (demanded p None) (onward (context_in c) c.script.services b []) ≡ does (demanded pattern (Some i)) (later []) = sym (onward_passes c.plan c.script b a [] e) ∙ goes [] in
-          absurd (cc)
+          absurd (none_is_called p pattern i (same_piece (demanded p None) (demanded pattern (Some i)) (onward (context_in c) c.script.services b []) (later []) (sym (onward_passes c.plan c.script b a [] e) ∙ goes [])))
       by (Some u) e =
-          let first : (answers : List Answer) → does (demanded p (Some u.number)) (served (context_in c) c.script.services u.bit (service_meaning (context_in c) most_turns u.service b answers)) ≡ does (demanded pattern (Some i)) (later answers) =
-          λ answers. sym (onward_serves c.plan c.script b a answers u e) ∙ goes answers in
-          let number : u.number ≡ i = number_of p pattern u.number i _ _ (first []) in
+          let its : Service → List Answer → Behaviour (Unit {0}) = λ w answers. served (context_in c) c.script.services u.bit (service_meaning (context_in c) most_turns w b answers) in
+          let first : (answers : List Answer) → does (demanded p (Some u.number)) (its u.service answers) ≡ does (demanded pattern (Some i)) (later answers) = λ answers. sym (onward_serves c.plan c.script b a answers u e) ∙ goes answers in
+          let number : u.number ≡ i = same_number p pattern u.number i (same_piece (demanded p (Some u.number)) (demanded pattern (Some i)) (its u.service []) (later []) (first [])) in
           let listed : slice_get c.script.services u.number ≡ Some u.service = (((demands_call_services c.plan planned c.script p).called u).0 e).asked.numbered in
-          let its : v ≡ u.service = same_Some v u.service (sym there ∙ ap (slice_get c.script.services) (sym number) ∙ listed) in
+          let same_service : v ≡ u.service = same_Some v u.service (sym there ∙ ap (slice_get c.script.services) (sym number) ∙ listed) in
           quiet_between os unlocks event (last_words_in new) (rest new)
-          (subst (λ (r : List Answer → Behaviour (Unit {0})). AreAhead os r)
-          (fun_ext (λ answers. ap (λ w. served (context_in c) c.script.services u.bit (service_meaning (context_in c) most_turns w b answers)) its ∙ ap past_first (first answers)))
-          (served_ahead u.bit b))
+          (subst (λ (r : List Answer → Behaviour (Unit {0})). AreAhead os r) (fun_ext (λ answers. ap (λ w. its w answers) same_service ∙ ap past_first (first answers))) (served_ahead u.bit b))

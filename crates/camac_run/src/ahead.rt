@@ -176,16 +176,14 @@ pub fn service_ahead(checked: &Checked, number: usize) -> Ahead
     checked.plan().is_plan();
     let mut coming = Coming::nothing();
     let services = checked.script().services();
-    if number < services.len() {
-        let mut known = Known::at_begin();
-        let inside = Inside::of_all(checked);
-        add_block(
-            &inside,
-            services[number].body.as_slice(),
-            &mut known,
-            &mut coming,
-        );
+    if number >= services.len() {
+        return coming.ahead;
     }
+    let service = &services[number];
+    let mut known = Known::at_begin();
+    let inside = Inside::of_all(checked);
+    let body = service.body.as_slice();
+    add_block(&inside, body, &mut known, &mut coming);
     coming.ahead
 }
 
