@@ -804,8 +804,9 @@ class Python(Case):
                             self.assertEqual(bytes(session.wants()), operation)
                             self.assertNotEqual(session.next(CYCLE).kind, library.STOPPED)
                     session.rewind()
-        for bench in ("beam_line", "spectroscopy", "three_modules"):
-            self.assertGreater(told[bench], 3, told)
+        for name in ("beam_line", "spectroscopy", "slow_control", "all_channels", "lockout"):
+            self.assertGreater(told[name], 9, told)
+        self.assertEqual((told["transfers"], told["three_modules"], told["poll"]), (0, 0, 0))  # a transfer or `while` comes first
 
     def left(self, session):
         """What is left of a block, and the words to write."""

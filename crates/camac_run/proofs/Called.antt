@@ -1,5 +1,5 @@
 -- What a service surely makes first, after the demand that calls it.
-use Rattle.std.proofs.Common.{◌≡◌, ◌∙◌, ℕ, zero, suc, ◌<◌, List, [], ◌∷◌, length, get_or, replicate, Bool, false, Option, None, Some, refl, sym, ap, subst, arith}
+use Rattle.std.proofs.Common.{◌≡◌, ◌∙◌, ℕ, zero, suc, ◌<◌, List, [], ◌∷◌, length, get_or, replicate, Bool, Option, None, Some, refl, sym, ap, subst, arith}
 use Rattle.std.proofs.Math.Path.{fun_ext}
 use Rattle.std.proofs.lemmas.Option.{same_Some}
 use Rattle.std.specs.Prelude.{slice_get}
@@ -13,15 +13,14 @@ use Rattle.camac_model.specs.Behaviour.{Behaviour, does, ends, Piece, demanded, 
 use Rattle.camac_model.specs.Fine.{most_turns}
 use Rattle.camac_model.specs.Meaning.{block_meaning}
 use Rattle.camac_model.specs.Run.{Chosen, event_of, service_for, service_meaning}
-use Rattle.camac_model.specs.State.{State, fresh}
+use Rattle.camac_model.specs.State.{fresh}
 use Rattle.camac_model.proofs.Demands.{demands_call_services}
-use Rattle.camac_machine.specs.MachineState.{Left, bounds_at, context_in}
+use Rattle.camac_machine.specs.MachineState.{bounds_at, context_in}
 use Rattle.camac_machine.specs.Rest.{Operation, onward, says, served}
-use Rattle.camac_machine.specs.declared.item.Item.TheVariants.{Demand}
 use Rattle.camac_machine.proofs.Blocks.{then_ends}
 use Rattle.camac_machine.proofs.Bounds.{fine_at}
 use Rattle.camac_run.specs.Ahead.{AreAhead, BeginsWith, past_first}
-use Rattle.camac_run.specs.Runner.{RunnerState, GoesOn, last_words_in, rest, rest_from, with_event}
+use Rattle.camac_run.specs.Runner.{last_words_in, rest, rest_from, with_event}
 use Rattle.camac_run.specs.Sure.{Adds, IsKnown, LeadsTo}
 use Rattle.camac_run.specs.declared.ahead.Known.{Known}
 use Rattle.camac_run.specs.declared.progress.Wanted.{Wanted}
