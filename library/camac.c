@@ -18,6 +18,7 @@ uint32_t camac_raw_open(void *run, const uint8_t *plan, size_t plan_size, const 
 uint32_t camac_raw_wants(void *run, void *want);
 size_t camac_raw_ahead(void *run, uint8_t *bytes, size_t room);
 size_t camac_raw_back(void *run, uint8_t *bytes, size_t room);
+uint32_t camac_raw_service_ahead(void *run, uint32_t number, uint8_t *bytes, size_t room, size_t *size);
 size_t camac_raw_transfer(void *run, uint8_t *bytes, size_t room);
 size_t camac_raw_to_write(void *run, uint8_t *bytes, size_t room);
 uint32_t camac_raw_next(void *run, const void *answer, void *progress);
@@ -209,14 +210,11 @@ int camac_wants(const camac_session *s, camac_want *want) {
 /* How many numbers an export tells of an operation. */
 #define NUMBERS 9u
 
-/* Operations, of which an export writes the numbers. */
-static size_t call_of_wants(size_t (*call)(void *, uint8_t *, size_t), const camac_session *s, camac_want *want, size_t room) {
-    uint32_t numbers[NUMBERS * CAMAC_AHEAD];
-    if (!is_session(s) || !room || !IS_KNOWN(want)) return 0;
-    const uint32_t size = want->size;
-    const size_t all = call(run_of(s), (uint8_t *)numbers, sizeof numbers) / NUMBERS, count = all < room ? all : room;
-    for (size_t i = 0; i < count; i++) {
-        const uint32_t *const its = numbers + NUMBERS * i;
+/* Operations by the numbers that an export has written, as many as there is room for. */
+static size_t wants_of(const uint32_t *its, size_t all, camac_want *want, size_t room) {
+    const size_t count = all / NUMBERS < room ? all / NUMBERS : room;
+    const uint32_t size = count ? want->size : 0;
+    for (size_t i = 0; i < count; i++, its += NUMBERS) {
         if (i) NEXT(want, size);
         CLEAR(want);
         want->kind = (uint8_t)its[0];
@@ -232,10 +230,29 @@ static size_t call_of_wants(size_t (*call)(void *, uint8_t *, size_t), const cam
     return count;
 }
 
+static size_t call_of_wants(size_t (*call)(void *, uint8_t *, size_t), const camac_session *s, camac_want *want, size_t room) {
+    uint32_t numbers[NUMBERS * CAMAC_AHEAD];
+    if (!is_session(s) || !room || !IS_KNOWN(want)) return 0;
+    return wants_of(numbers, call(run_of(s), (uint8_t *)numbers, sizeof numbers), want, room);
+}
+
+/* The room of a list: for one operation where a pause could come before the last. */
+static size_t room_of(const camac_session *s, size_t room) { return room > 1 && is_session(s) && s->camac_ways & IS_SHORT ? 1 : room; }
+
 size_t camac_ahead(const camac_session *s, camac_want *want, size_t room) {
-    const size_t count = call_of_wants(camac_raw_ahead, s, want, room > 1 && is_session(s) && s->camac_ways & IS_SHORT ? 1 : room);
+    const size_t count = call_of_wants(camac_raw_ahead, s, want, room_of(s, room));
     if (count) as_block(s, want);
     return count;
+}
+
+int camac_service_ahead(const camac_session *s, uint32_t service, camac_want *want, size_t room, size_t *count) {
+    uint32_t numbers[NUMBERS * CAMAC_AHEAD];
+    size_t unasked, all;
+    count = told(count, &unasked);
+    if (!is_session(s) || (room && !IS_KNOWN(want))) return CAMAC_MISUSE;
+    const uint32_t code = camac_raw_service_ahead(run_of(s), service, (uint8_t *)numbers, sizeof numbers, &all);
+    *count = wants_of(numbers, all, want, room_of(s, room));
+    return (int)code;
 }
 
 size_t camac_back(const camac_session *s, camac_want *want, size_t room) { return call_of_wants(camac_raw_back, s, want, room); }

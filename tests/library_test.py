@@ -84,6 +84,15 @@ service adc within 13 cycles event 0 words {
   cclc adc
 }
 """
+DECIDES = """cdlam adc 1 1 5 12
+var v
+service adc within 9 cycles event 0 words {
+  cdreg r 1 1 5 3
+  cfsa 0 r -> v
+  if v > 5 { cfsa 0 r -> v }
+  cclc adc
+}
+"""
 ARCHIVE_BYTES = 1_300_000
 NEEDED = {"malloc", "realloc", "free", "memcpy", "memmove", "memset"}
 ESONE = """
@@ -346,7 +355,7 @@ class Calls(Case):
 
     def test_a_consumer_writes_what_the_program_writes(self):
         """Its listing and its event file of random scripts and of the examples are those of `camac run`, byte for byte, and the same answers in lists, and in
-        blocks that end anywhere, do the same."""
+        blocks that end anywhere, do the same. What each service begins with is what was told before its demand."""
         pool = concurrent.futures.ProcessPoolExecutor()
         accepted = list(itertools.islice(filter(None, pool.map(accepted_script, range(10 * SCRIPTS), chunksize=20)), SCRIPTS))
         pool.shutdown(cancel_futures=True)
@@ -357,8 +366,9 @@ class Calls(Case):
                 (self.room / f"{k}.{kind}").write_bytes(text)
         status, counts = call(self.program("consumer"), self.room, len(accepted))
         self.assertEqual(status, 0, counts)
-        lists, answers, with_blocks = map(int, counts.split())
+        lists, answers, with_blocks, told_before = map(int, counts.split())
         self.assertGreater(answers - lists, len(accepted))
+        self.assertGreater(told_before, 4 * len(accepted))
         self.assertGreater(lists - with_blocks, 100)
 
         def ran(k):
@@ -759,6 +769,44 @@ class Python(Case):
             self.assertEqual([(it.kind, it.waits) for it in session.ahead()], [(library.CYCLE, 2), (library.LOCK, 2), *[(library.CYCLE, 0)] * 2])
             session.next(CYCLE)
             self.assertEqual([(it.kind, it.waits) for it in session.ahead()], [(library.LOCK, 2), *[(library.CYCLE, 0)] * 2])
+
+    def test_what_a_service_begins_with(self):
+        """It is told before the demand: that is what the run wants after it, one by one."""
+        for script, told in (
+            ((EXAMPLES / "all_channels.script").read_text(), [*((1, a, 0, 2) for a in range(12)), (1, 12, 10, 2)]),
+            (CALLS, [(1, 3, 0, 2), (1, 4, 0, 2), (1, 12, 10, 2)]),
+            (ARMS, [(1, 3, 0, 2), (1, 3, 0, 2), (1, 12, 10, 2)]),
+            (DECIDES, [(1, 3, 0, 2)]),
+            (LOCKS.replace("  cclc adc\n  lock", "  lock", 1), [(1, 0, 0, 2), (1, 3, 0, 0), (1, 12, 10, 0)]),
+            (LOCKS, [(1, 12, 10, 2), (1, 0, 0, 2), (1, 3, 0, 0), (1, 12, 10, 0)]),
+            ((EXAMPLES / "transfers.script").read_text(), []),
+        ):
+            with library.Session(self.sample(), script) as session:
+                self.assertEqual([(it.c, it.a, it.f, it.waits) for it in session.service_ahead(1)], told)
+                self.assertEqual(len(session.service_ahead(1, 2)), min(2, len(told)))
+                for service in (0, 2, -1, 1 << 32):
+                    with self.assertRaises(UsageFault):
+                        session.service_ahead(service)
+                session.next(DEMAND)
+                with self.assertRaises(UsageFault) as found:
+                    session.service_ahead(1)
+        self.assertEqual(str(found.exception), "service_ahead needs an open session that wants a demand, and the number of a service, from 1")
+
+    def test_what_the_services_of_examples_begin_with(self):
+        told = collections.Counter()
+        for plan, script in pairs():
+            with library.Session(plan.read_bytes(), script.read_bytes()) as session:
+                for number, service in enumerate(session.services(), 1):
+                    before = [bytes(it) for it in session.service_ahead(number)]
+                    if session.next(Answer(gl=1 << service.gl - 1)).service == number:
+                        told[script.stem if script.parent == EXAMPLES else script.parent.name] += len(before)
+                        for operation in before:
+                            self.assertEqual(bytes(session.wants()), operation)
+                            self.assertNotEqual(session.next(CYCLE).kind, library.STOPPED)
+                    session.rewind()
+        for name in ("beam_line", "spectroscopy", "slow_control", "all_channels", "lockout"):
+            self.assertGreater(told[name], 9, told)
+        self.assertEqual((told["transfers"], told["three_modules"], told["poll"]), (0, 0, 0))  # a transfer or `while` comes first
 
     def left(self, session):
         """What is left of a block, and the words to write."""

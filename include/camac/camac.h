@@ -74,7 +74,8 @@ enum camac_code {
                             the text says which */
     CAMAC_MISUSE = 2,    /* the session is none, or header and library do not fit; camac_open found it open; a struct or a pointer is wrong
                             (STRUCTS, TEXTS); what camac_response is told of services is wrong; camac_explain_at: a line or column of 0;
-                            camac_tell is asked nothing that it knows; camac_block: no block is wanted, or there is no answer */
+                            camac_tell is asked nothing that it knows; camac_block: no block is wanted, or there is no answer;
+                            camac_service_ahead: no demand is wanted */
     CAMAC_NO_MEMORY = 3, /* malloc or realloc refused */
     CAMAC_OVERRUN = 4,   /* a wait that the plan does not permit: the run stays where it was, until camac_abandon leaves the service */
     CAMAC_RANGE = 5,     /* a word or gl above 0xffffff, a wait above 15, the number of no service, or of no modes */
@@ -246,6 +247,11 @@ CAMAC_CALL camac_next(camac_session *s, const camac_answer *answer, camac_progre
  * camac_wants. A list ends before a transfer, a `while`, and an `if` of cycles that answers decide. Before its last answer is taken, no lockout is to
  * be released and no event left. A wait that is not permitted stops the run before the rest. The size of want[0] counts for all. */
 size_t camac_ahead(const camac_session *s, camac_want *want, size_t room);
+
+/* The list with which a service begins, known before its demand, for a controller that plays a stack of its own at a look-at-me: once a demand has called
+ * the service, the run wants exactly these, in the form and with the limits of camac_ahead. *count is how many were written; 0 where the first is not
+ * known before. The service is numbered as in camac_service. CAMAC_RANGE: there is none. CAMAC_MISUSE: no demand is wanted. */
+CAMAC_CALL camac_service_ahead(const camac_session *s, uint32_t service, camac_want *want, size_t room, size_t *count);
 
 /* camac_next of one answer after the other, up to one that is not taken, whose code it gives, that leaves an event, whose words and record can be
  * read then, or after which the run pauses, at CAMAC_BUSY. *taken is how many were taken, and progress[*taken] tells of the one that was not. The

@@ -130,6 +130,7 @@ class session {
         const bool is_none = camac_wants(&its, &want) == CAMAC_MISUSE;
         const char *const need = is_none                                          ? "a session that was not moved from"
                                  : call == "block" && want.kind != CAMAC_BLOCK ? "a block that is wanted"
+                                 : call == "service_ahead"                     ? "a demand that is wanted"
                                                                                 : "answers that begin as CAMAC_ANSWER";
         CAMAC_THROW(fault(code, call + " needs " + need));
     }
@@ -203,6 +204,15 @@ public:
     [[nodiscard]] std::vector<camac_want> ahead(std::size_t room = CAMAC_AHEAD) const {
         std::vector<camac_want> wants(std::min<std::size_t>(room, CAMAC_AHEAD), camac_want CAMAC_WANT);
         wants.resize(camac_ahead(&its, wants.data(), wants.size()));
+        return wants;
+    }
+
+    // The list with which a service begins, by its number from 1, known before its demand: once it is called, the run wants exactly these.
+    [[nodiscard]] std::vector<camac_want> service_ahead(std::uint32_t service, std::size_t room = CAMAC_AHEAD) const {
+        std::vector<camac_want> wants(std::min<std::size_t>(room, CAMAC_AHEAD), camac_want CAMAC_WANT);
+        std::size_t count = 0;
+        test(camac_service_ahead(&its, service, wants.data(), wants.size(), &count), "service_ahead");
+        wants.resize(count);
         return wants;
     }
 

@@ -42,6 +42,7 @@ CLOSED = "{} needs an open session: this one is closed"
 PAUSED = "{} needs a run that does not pause: go_on comes first"
 LIMIT_RANGE = "limit_steps needs a number from 0 to 4294967295"
 NO_BLOCK = "block needs an open session that wants a block, and an answer"
+NO_DEMAND = "service_ahead needs an open session that wants a demand, and the number of a service, from 1"
 MODES_RANGE = "blocks needs a sum of Q_STOP, Q_REPEAT, SCAN and WRITES"
 # A session makes no more steps at once. They take a tenth of a second at worst; between them other threads run, and signals come.
 STEPS = 5_000
@@ -271,6 +272,17 @@ class Session:
         """The operations that come next, whatever is answered, as many as `room` at most: what a controller that makes lists of commands makes in one
         transfer. The first is that of `wants`. None if the run is stopped, by an overrun."""
         return self._wants(self._calls.camac_ahead, max(0, min(room, native.AHEAD)))
+
+    def service_ahead(self, service: int, room: int = native.AHEAD) -> List[Want]:
+        """The list with which a service begins, by its number from 1, known before its demand: once a demand has called it, the run wants exactly
+        these, whatever is answered. No more than `room`, and none if the first is not known before. Raises UsageFault if there is no such service, or no
+        demand is wanted."""
+        wants, count = (Want * native.AHEAD)(), c_size_t()
+        wants[0].size = ctypes.sizeof(Want)
+        number = service if 0 < service <= self._calls.camac_services(self._at) else 0
+        if self._calls.camac_service_ahead(self._at, number, wants, max(0, min(room, native.AHEAD)), byref(count)) != OK:
+            raise UsageFault(NO_DEMAND, 2)
+        return list(wants[: count.value])
 
     def back(self) -> List[Want]:
         """What sets inhibit and demand output of the crates back, as they were at the demand of the service in progress: cycles to make before

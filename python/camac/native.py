@@ -124,6 +124,7 @@ _OF_SESSIONS: Dict[str, List[Any]] = {
     **{name: [_SESSION, POINTER(c_uint32), c_size_t] for name in ("words", "held", "block_words")},
     "wants": [_SESSION, POINTER(Want)],
     **{name: [_SESSION, POINTER(Want), c_size_t] for name in ("ahead", "back")},
+    "service_ahead": [_SESSION, c_uint32, POINTER(Want), c_size_t, POINTER(c_size_t)],
     "next": [_SESSION, POINTER(AnswerStruct), POINTER(Progress)],
     **{name: [_SESSION, POINTER(AnswerStruct), POINTER(Progress), c_size_t, POINTER(c_size_t)] for name in ("next_many", "block")},
     "blocks": [_SESSION, c_uint32],

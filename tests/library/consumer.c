@@ -1,10 +1,12 @@
 /* consumer.c: what a data acquisition program makes of a run: the listing and the event file of `camac run`. The run is begun again before it is
  * played. Now and then a service is abandoned: what was written since its demand is taken back, and the rest is that of a run without it. Where it
  * stands, each time something is wanted, is a line of the script that can want it. A second session takes the same answers in lists, as long as what
- * it tells ahead, a third one also in blocks, and both do the same. So does camac_run with all of them.
+ * it tells ahead, a third one also in blocks, and both do the same. So does camac_run with all of them. What a service begins with was told before its
+ * demand.
  *
  *     consumer FOLDER COUNT     of FOLDER/K.plan and FOLDER/K.script, K below COUNT, it makes K.answers at random, K.listing and K.events, and prints
- *                               how many lists there were, how many answers in them, and how many lists with blocks */
+ *                               how many lists there were, how many answers in them, how many lists with blocks, and how many operations were wanted
+ *                               that were told before their demand */
 #define _POSIX_C_SOURCE 200809L
 #include "common.h"
 #include <stddef.h>
@@ -238,6 +240,35 @@ static void add(struct way *its, int code, const camac_progress *did, const cama
     if (its->used == its->count || code != CAMAC_OK || (is_block(its) && its->block.is_over)) hand_in(its, code, one);
 }
 
+/* The lists with which the services begin, as they are told before a demand, and how many operations were wanted since. */
+#define SERVICES 24
+static camac_want firsts[SERVICES + 1][CAMAC_AHEAD];
+static size_t first_counts[SERVICES + 1], since;
+static unsigned long told_before;
+
+/* What is wanted of a service in progress, 0 for none, is what was told before; at a demand that is told anew. */
+static void is_first(const camac_session *s, const camac_want *want, uint32_t service) {
+    size_t none = 9;
+    if (want->kind != CAMAC_DEMAND) {
+        EXPECT(CAMAC_MISUSE, camac_service_ahead(s, service, firsts[0], 1, &none));
+        if (none) fail("a list is told in a service");
+        if (since >= first_counts[service]) return;
+        if (memcmp(&firsts[service][since], want, sizeof *want)) fail("service %u begins with something else", (unsigned)service);
+        since++, told_before++;
+        return;
+    }
+    for (uint32_t k = 1; k <= camac_services(s); k++) {
+        firsts[k][0] = no_want;
+        EXPECT(CAMAC_OK, camac_service_ahead(s, k, firsts[k], CAMAC_AHEAD, &first_counts[k]));
+    }
+    since = 0;
+}
+
+/* Until all that was told before is wanted, nothing is released, and no event left. */
+static void is_quiet(const camac_progress *did, uint32_t service) {
+    if (since < first_counts[service] && (did->event || did->unlocked[0])) fail("service %u ends before what it begins with", (unsigned)service);
+}
+
 /* Goes on while all runs pause, and puts what it tells. */
 static int go_on(camac_session *s, int code, camac_want *want, FILE *listing, FILE *events, uint32_t *count, uint32_t service) {
     const camac_answer answer = CAMAC_ANSWER;
@@ -248,6 +279,7 @@ static int go_on(camac_session *s, int code, camac_want *want, FILE *listing, FI
         EXPECT(CAMAC_BUSY, camac_step(s, &answer, &did, want));
         code = camac_go_on(s, &did);
         is_told(s, &did, service);
+        is_quiet(&did, service);
         put(listing, item, s);
         put(events, camac_record, s);
         if (did.event) *count = did.event;
@@ -272,6 +304,7 @@ static void play(camac_session *s, const char *folder, long k, const text *scrip
     for (uint32_t i = 0; i < most && code == CAMAC_OK; i++) {
         camac_answer answer = any_answer(&seed);
         stands(s, &want, script, service);
+        is_first(s, &want, service);
         for (int n = 0; n < 3 && want.kind == CAMAC_DEMAND; n++) at[n] = ftell(files[n]);
         if (want.kind == CAMAC_DEMAND) answer.gl = any_pattern(s, &seed);
         fprintf(answers, "%d %d %06x %x %06x\n", answer.x, answer.q, (unsigned)answer.word, answer.wait, (unsigned)answer.gl);
@@ -289,6 +322,7 @@ static void play(camac_session *s, const char *folder, long k, const text *scrip
         if (did.event) count = did.event;
         if (did.kind == CAMAC_DEMAND) service = did.service, memcpy(was, now, sizeof was);
         is_told(s, &did, service);
+        is_quiet(&did, service);
         if (did.kind != (code == CAMAC_OVERRUN ? CAMAC_STOPPED : before.kind)) fail("an answer was for kind %u, not %u", did.kind, before.kind);
         code = go_on(s, code, &want, listing, events, &count, service);
         if (code == CAMAC_OVERRUN ? chance(&seed, 3) : code != CAMAC_OK || want.kind == CAMAC_DEMAND || chance(&seed, 20)) continue;
@@ -350,6 +384,6 @@ int main(int words_count, char **words) {
         for (int w = 0; w < WAYS; w++) camac_close(&ways[w].s);
         free(plan.bytes), free(script.bytes);
     }
-    printf("%lu %lu %lu\n", ways[0].lists, ways[0].all, ways[1].lists);
+    printf("%lu %lu %lu %lu\n", ways[0].lists, ways[0].all, ways[1].lists, told_before);
     return 0;
 }

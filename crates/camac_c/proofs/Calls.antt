@@ -1,6 +1,7 @@
 -- What C is told of a run, from what passes between a call and the run.
-use Rattle.std.proofs.Common.{◌≡◌, ℕ, List, [], length, refl, ap, ◌∙◌, subst, arith}
-use Rattle.std.specs.Prelude.{Option, Some, None, min, option_map, reverse, unwrap_or}
+use Rattle.std.proofs.Common.{◌≡◌, ℕ, zero, suc, List, [], length, refl, ap, ◌∙◌, subst, arith}
+use Rattle.std.specs.Prelude.{Option, Some, None, min, option_map, reverse, slice_get, unwrap_or}
+use Rattle.camac_lang.specs.Tree.{Service}
 use Rattle.camac_run.specs.Runner.{last_words_in}
 use Rattle.camac_run.specs.Back.{back_in}
 use Rattle.camac_c.specs.Ahead.{numbers_ahead}
@@ -9,8 +10,9 @@ use Rattle.camac_c.specs.Last.{last_lines, last_record}
 use Rattle.camac_c.specs.Place.{numbers_of_place}
 use Rattle.camac_c.specs.Plain.{only_code}
 use Rattle.camac_c.specs.Service.{name_at, numbers_at}
-use Rattle.camac_c.specs.Talk.{AnswersBytes, AnswersCode, AnswersCount, AnswersGoOn, AnswersNext, AnswersStep, AnswersText, AnswersWants, Lists, Talks, TellsIf, TellsWords}
+use Rattle.camac_c.specs.Talk.{AnswersBytes, AnswersCode, AnswersCount, AnswersGoOn, AnswersNext, AnswersStep, AnswersText, AnswersWants, Lists, Talks, TellsFirst, TellsIf, TellsServiceAhead, TellsWords}
 use Rattle.camac_machine.specs.Course.{words_sent}
+use Rattle.camac_machine.specs.Rest.{Operation}
 use Rattle.camac_run.specs.declared.transfer.TransferLeft.{TransferLeft}
 use Rattle.camac_c.specs.Transfer.{numbers_in}
 use Rattle.camac_c.specs.declared.plain.SessionAsk.{SessionAsk}
@@ -37,11 +39,21 @@ numbered_none : (its : Option (List ℕ)) (told : Told) (ws : List ℕ) → Tell
 numbered_none None told ws h = h.0
 numbered_none (Some its) told ws h = h.0 ∙ filled_words_none its
 
+first_none : (s : Session) (i : ℕ) (service : Option Service) (pending : Option Operation) (told : Told) (ws : List ℕ) → TellsFirst s i service pending [] ws told → ws ≡ []
+first_none s i None pending told ws h = h.0
+first_none s i (Some v) (Some w) told ws h = h.0
+first_none s i (Some v) None told ws h = h.2.0 ∙ filled_words_none (numbers_ahead s.checked.now.plan s.runner h.0)
+
+begun_none : (s : Session) (k : ℕ) (told : Told) (ws : List ℕ) → TellsServiceAhead s k [] ws told → ws ≡ []
+begun_none s zero told ws h = first_none s zero None None told ws h
+begun_none s (suc i) told ws h = first_none s i (slice_get s.checked.now.script.services i) s.runner.pending told ws h
+
 written : (v after : Option Session) (a : SessionAsk) (none told : Told) (ws : List ℕ) → Talks v a none after [] ws told → ws ≡ []
 written None after a none told ws h = h.1
 written (Some s) None a none told ws h = absurd h
 written (Some s) (Some after) ask.Wants none told ws h = h.0
 written (Some s) (Some after) ask.Ahead none told ws h = h.1.2.0 ∙ filled_words_none (numbers_ahead s.checked.now.plan s.runner h.1.0)
+written (Some s) (Some after) (ask.ServiceAhead k) none told ws h = begun_none s k told ws h.1
 written (Some s) (Some after) ask.Transfer none told ws h = h.1.2.0 ∙ filled_words_none (unwrap_or (option_map numbers_in h.1.0) [])
 written (Some s) (Some after) ask.ToWrite none told ws h = h.1.2.0 ∙ filled_words_none (unwrap_or (option_map (λ (t : TransferLeft). unwrap_or (words_sent t.table) []) h.1.0) [])
 written (Some s) (Some after) ask.Back none told ws h = h.1.1.0 ∙ filled_words_none (numbers_ahead s.checked.now.plan s.runner (back_in s.runner))

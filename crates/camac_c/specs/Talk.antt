@@ -1,10 +1,11 @@
 -- What the calls of a session say.
-use Rattle.std.specs.Prelude.{◌≡◌, ◌<◌, ◌≤◌, ◌-◌, ℕ, List, [], length, reverse, true, false, Option, None, Some, IfSome, nat_eq, option_map, unwrap_or, if◌then◌else◌}
+use Rattle.std.specs.Prelude.{◌≡◌, ◌<◌, ◌≤◌, ◌-◌, ℕ, zero, suc, List, [], length, reverse, true, false, Option, None, Some, IfSome, nat_eq, option_map, slice_get, unwrap_or, if◌then◌else◌}
 use Rattle.camac_branch.specs.Branch.{Answer as BranchAnswer}
 use Rattle.camac_branch.specs.declared.answer.Overrun.{Overrun}
 use Rattle.camac_checked.specs.Checked.{CheckedScript}
 use Rattle.camac_model.specs.Run.{the_run}
-use Rattle.camac_run.specs.Ahead.{IsAhead}
+use Rattle.camac_lang.specs.Tree.{Service}
+use Rattle.camac_run.specs.Ahead.{BeginsWith, IsAhead}
 use Rattle.camac_run.specs.Back.{SettingBackHolds, back_in}
 use Rattle.camac_run.specs.Holds.{HoldsAfter}
 use Rattle.camac_run.specs.Operation.{Wants}
@@ -16,7 +17,7 @@ use Rattle.camac_run.specs.declared.progress.Progress.{Progress}
 use Rattle.camac_run.specs.declared.progress.Wanted.{Wanted}
 use Rattle.camac_run.specs.declared.transfer.TransferLeft.{TransferLeft}
 use Rattle.camac_machine.specs.Course.{words_sent}
-use Rattle.camac_machine.specs.Rest.{is_paused}
+use Rattle.camac_machine.specs.Rest.{Operation, is_paused}
 use Rattle.camac_c.specs.Abandoned.{LeavesService}
 use Rattle.camac_c.specs.Ahead.{numbers_ahead}
 use Rattle.camac_c.specs.Filled.{filled, filled_words}
@@ -121,6 +122,18 @@ TellsPlace h old new told = (place : Option Place) × IsAt h place × TellsWords
 abbrev pub TellsAhead : Session → (old new : List ℕ) → Told → Type 0
 TellsAhead s old new told = (os : List Wanted) × IsAhead s.runner os × TellsWords (numbers_ahead s.checked.now.plan s.runner os) old new told
 
+-- what a service surely makes first, where there is such a service: 2 where no demand is wanted
+abbrev pub TellsFirst : Session → (service : ℕ) → Option Service → Option Operation → (old new : List ℕ) → Told → Type 0
+TellsFirst s i None pending old new told = (new ≡ old) × (told ≡ only_code 5)
+TellsFirst s i (Some v) (Some w) old new told = (new ≡ old) × (told ≡ only_code 2)
+TellsFirst s i (Some v) None old new told =
+    (os : List Wanted) × BeginsWith s.checked.now i os × TellsWords (numbers_ahead s.checked.now.plan s.runner os) old new told
+
+-- by its number from 1 on
+abbrev pub TellsServiceAhead : Session → (number : ℕ) → (old new : List ℕ) → Told → Type 0
+TellsServiceAhead s zero old new told = TellsFirst s zero None None old new told
+TellsServiceAhead s (suc i) old new told = TellsFirst s i (slice_get s.checked.now.script.services i) s.runner.pending old new told
+
 -- what sets the crates back, of which this is true
 abbrev pub TellsBack : Session → (old new : List ℕ) → Told → Type 0
 TellsBack s old new told = SettingBackHolds × TellsWords (numbers_ahead s.checked.now.plan s.runner (back_in s.runner)) old new told
@@ -150,6 +163,7 @@ answers_left h = left_from h.overrun h.fed
 abbrev pub Steps : Session → SessionAsk → Session → (old new : List ℕ) → Told → Type 0
 Steps s ask.Wants after old new told = (new ≡ old) × TellsWant s after told
 Steps s ask.Ahead after old new told = (after ≡ s) × TellsAhead s old new told
+Steps s (ask.ServiceAhead k) after old new told = (after ≡ s) × TellsServiceAhead s k old new told
 Steps s ask.Transfer after old new told = (after ≡ s) × TellsTransfer numbers_in s.runner old new told
 Steps s ask.ToWrite after old new told = (after ≡ s) × TellsTransfer (λ t. unwrap_or (words_sent t.table) []) s.runner old new told
 Steps s ask.Back after old new told = (after ≡ s) × TellsBack s old new told

@@ -2,14 +2,15 @@
 
 ghost use Rattle.std.specs.Prelude.{◌≡◌, ◌≤◌, length};
 ghost use Rattle.camac_c.specs.Ahead.{fields_of, locked_behind, numbers_ahead, want_behind};
-ghost use Rattle.camac_c.specs.Talk.{AnswersBytes};
+ghost use Rattle.camac_c.specs.Talk.{AnswersBytes, AnswersText, TellsAhead, TellsBack, TellsServiceAhead, TellsWords};
 ghost use Rattle.camac_c.specs.declared.plain.SessionAsk.TheVariants as ask;
 
 use crate::handle::Handle;
-use crate::plain::{CamacWant, SessionAsk};
-use crate::session::{Session, want_of};
+use crate::plain::{CamacWant, MISUSE, RANGE, SessionAsk, Told, only_code};
+use crate::service::write_numbers;
+use crate::session::{Session, counted, want_of};
 use arrayvec::ArrayVec;
-use camac_run::Wanted;
+use camac_run::{Wanted, service_ahead, setting_back_holds};
 use std::alloc::Global;
 
 /// The numbers of a want.
@@ -40,8 +41,68 @@ pub extern "C" fn camac_raw_back(alloc: Global, handle: &mut Handle, bytes: &mut
     handle.ask(alloc, SessionAsk::Back, bytes).count
 }
 
-/// The numbers of operations, one after another.
-pub fn numbers_ahead(session: &Session, ahead: &[Wanted]) -> ArrayVec<u32, NUMBERS>
+/// What a service surely makes first, by its number from 1 on, in the same form. `RANGE`: there is none; `MISUSE`: no demand is wanted.
+#[tactic(auto, using(crate::proofs::Calls::text_answers))]
+#[unsafe(no_mangle)]
+pub extern "C" fn camac_raw_service_ahead(
+    alloc: Global,
+    handle: &mut Handle,
+    number: u32,
+    bytes: &mut [u8],
+    size: &mut usize,
+) -> u32
+    ensures { AnswersText handle.old.value (ask.ServiceAhead number) handle.new.value result bytes.old bytes.new size.new }
+{
+    let told = handle.ask(alloc, SessionAsk::ServiceAhead(number), bytes);
+    *size = told.count;
+    told.code
+}
+
+/// The operations that come next.
+pub fn ahead(session: &Session, bytes: &mut [u8]) -> Told
+    ensures { TellsAhead session.now bytes.old bytes.new result }
+{
+    tell_operations(session, session.runner.ahead().as_slice(), bytes)
+}
+
+/// What sets the crates back.
+pub fn back(session: &Session, bytes: &mut [u8]) -> Told
+    ensures { TellsBack session.now bytes.old bytes.new result }
+{
+    setting_back_holds();
+    tell_operations(session, session.runner.back().as_slice(), bytes)
+}
+
+/// What a service surely makes first, by its number from 1 on. The waits are those of now, since a demand locks no crate.
+pub fn first_of(session: &Session, number: u32, bytes: &mut [u8]) -> Told
+    ensures { TellsServiceAhead session.now number bytes.old bytes.new result }
+{
+    if number == 0 {
+        return only_code(RANGE);
+    }
+    let i = number as usize - 1;
+    match session.checked.script().services().get(i) {
+        None => only_code(RANGE),
+        Some(_) => {
+            if session.runner.in_service() {
+                only_code(MISUSE)
+            } else {
+                tell_operations(session, service_ahead(session.checked, i).as_slice(), bytes)
+            }
+        }
+    }
+}
+
+fn tell_operations(session: &Session, wanted: &[Wanted], bytes: &mut [u8]) -> Told
+    requires { length wanted.now ≤ 64 }
+    ensures { TellsWords (numbers_ahead session.now.checked.now.plan session.now.runner wanted.now) bytes.old bytes.new result }
+{
+    let numbers = numbers_ahead(session, wanted);
+    counted(write_numbers(numbers.as_slice(), bytes))
+}
+
+// The numbers of operations, one after another.
+fn numbers_ahead(session: &Session, ahead: &[Wanted]) -> ArrayVec<u32, NUMBERS>
     requires { length ahead.now ≤ 64 }
     ensures { result.items ≡ numbers_ahead session.now.checked.now.plan session.now.runner ahead.now }
 {

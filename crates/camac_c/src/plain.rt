@@ -65,6 +65,8 @@ pub enum SessionAsk {
     Wants,
     /// The operations that come next, whatever is answered.
     Ahead,
+    /// The operations that a service surely makes first, by its number from 1 on.
+    ServiceAhead(u32),
     /// To take an answer.
     Next(CamacAnswer),
     /// To take an answer, and then what the next one is for.

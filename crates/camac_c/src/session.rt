@@ -7,17 +7,16 @@ ghost use Rattle.camac_run.specs.Requested.{IsSafeRequest, held_in};
 ghost use Rattle.camac_run.specs.Runner.{last_words_in};
 ghost use Rattle.camac_run.specs.Waits.{GoesOnUpTo, waits_of};
 ghost use Rattle.camac_c.specs.Abandoned.{LeavesService};
-ghost use Rattle.camac_c.specs.Ahead.{numbers_ahead};
 ghost use Rattle.camac_c.specs.Last.{last_lines, last_record};
 ghost use Rattle.camac_c.specs.Paused.{GoesOnIf, Limits};
 ghost use Rattle.camac_c.specs.Plain.{only_code};
 ghost use Rattle.camac_c.specs.Service.{name_at, numbers_at};
-ghost use Rattle.camac_c.specs.Talk.{Begins, Lists, StartsOn, Steps, TellsAhead, TellsBack, TellsNext, TellsIf, TellsPlace, TellsStep, TellsWant, TellsWords, Uses, answers_left};
+ghost use Rattle.camac_c.specs.Talk.{Begins, Lists, StartsOn, Steps, TellsNext, TellsIf, TellsPlace, TellsStep, TellsWant, TellsWords, Uses, answers_left};
 ghost use Rattle.camac_c.specs.Told.{InRange, answer_in, asked, counted, crates_in, cut_in, did, event_in, flag_in, item_in, movement_in, service_in, want_in, while_paused, word_in, written_in};
 ghost use Rattle.camac_c.specs.Width.{width_read, width_wanted};
 
 use crate::abandon::write_crates;
-use crate::ahead::numbers_ahead;
+use crate::ahead::{ahead, back, first_of};
 use crate::filling::{give, write_words};
 use crate::held::{Held, keep_held, release_held, write_held};
 use crate::last::{Deed, Last, give_lines, give_record};
@@ -34,7 +33,7 @@ use camac_checked::Checked;
 use camac_event::Usage;
 use camac_func::DataMove;
 use camac_machine::Item;
-use camac_run::{FullRunner, Progress, Used, Wanted, setting_back_holds};
+use camac_run::{FullRunner, Progress, Used, Wanted};
 use camac_word::{CrateNo, GlBit, Word24};
 use std::alloc::Global;
 
@@ -44,8 +43,8 @@ const MOST_ANSWERS: u32 = 4_294_967_295;
 /// A run in progress.
 #[derive(Drop)]
 pub struct Session<'a> {
-    runner: FullRunner<'a>,
-    checked: &'a Checked,
+    pub runner: FullRunner<'a>,
+    pub checked: &'a Checked,
     // what the run did last
     last: Last,
     held: Held,
@@ -90,6 +89,7 @@ pub fn step<'a>(
     match ask {
         SessionAsk::Wants => wants(&session, told),
         SessionAsk::Ahead => *told = ahead(&session, bytes),
+        SessionAsk::ServiceAhead(number) => *told = first_of(&session, number, bytes),
         SessionAsk::Next(answer) => next(&mut session, answer, told),
         SessionAsk::Step(answer) => next_and_wants(&mut session, answer, told),
         SessionAsk::Words => *told = counted(write_words(session.runner.last_words(), bytes)),
@@ -311,28 +311,6 @@ fn next_and_wants(session: &mut Session, answer: CamacAnswer, told: &mut Told)
     if told.code == OK {
         tell_want(session, &wanted, &mut told.want);
     }
-}
-
-fn ahead(session: &Session, bytes: &mut [u8]) -> Told
-    ensures { TellsAhead session.now bytes.old bytes.new result }
-{
-    tell_operations(session, session.runner.ahead().as_slice(), bytes)
-}
-
-// What sets the crates back.
-fn back(session: &Session, bytes: &mut [u8]) -> Told
-    ensures { TellsBack session.now bytes.old bytes.new result }
-{
-    setting_back_holds();
-    tell_operations(session, session.runner.back().as_slice(), bytes)
-}
-
-fn tell_operations(session: &Session, wanted: &[Wanted], bytes: &mut [u8]) -> Told
-    requires { length wanted.now ≤ 64 }
-    ensures { TellsWords (numbers_ahead session.now.checked.now.plan session.now.runner wanted.now) bytes.old bytes.new result }
-{
-    let numbers = numbers_ahead(session, wanted);
-    counted(write_numbers(numbers.as_slice(), bytes))
 }
 
 /// What a call tells that counts.

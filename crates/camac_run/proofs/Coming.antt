@@ -46,7 +46,7 @@ pub beginnings_are_ahead : BeginningsAreAhead
 beginnings_are_ahead h n os a = beginning n os (rest h) a
 
 -- where more is ahead, nothing but the operation was told
-quiet_between : (os : List Wanted) (unlocks : List ℕ) (event : Option Left) (words : List ℕ) (run : List Answer → Behaviour (Unit {0})) → AreAhead os (λ later. says unlocks (with_event event words (run later)))
+pub quiet_between : (os : List Wanted) (unlocks : List ℕ) (event : Option Left) (words : List ℕ) (run : List Answer → Behaviour (Unit {0})) → AreAhead os (λ later. says unlocks (with_event event words (run later)))
     → AreAhead os run × (0 < length os → (unlocks ≡ []) × (event ≡ None))
 quiet_between [] unlocks event words run h = (tt, λ n. absurd (omega (arith, n)))
 quiet_between (o ∷ os) [] None words run h = (h, λ n. (refl, refl))

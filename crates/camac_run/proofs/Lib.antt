@@ -19,3 +19,4 @@ pub mod Arms
 pub mod Around
 pub mod Undone
 pub mod Transfers
+pub mod Called

@@ -162,7 +162,7 @@ module _ (c : Context) (st : Statement) (k k' : Known) (old new : List Wanted) w
 -- ---- a lock
 
 -- what it makes first
-goes_first : (plan : Layout) (go : Action) (k k' k2 : Known) (made : List Wanted) (all : Bool) → Goes plan go k made all k' → Goes plan go k made false k2
+pub goes_first : (plan : Layout) (go : Action) (k k' k2 : Known) (made : List Wanted) (all : Bool) → Goes plan go k made all k' → Goes plan go k made false k2
 goes_first plan go k k' k2 made false h = h
 goes_first plan go k k' k2 made true h = λ bounds around. subst (λ os. Leads plan bounds k (λ s. then_do (go s) around) os) (append-nil made) (h bounds around [] (λ s known fine leave. tt))
 

@@ -1,10 +1,12 @@
 -- The operations that come next, whatever is answered.
 use Rattle.std.specs.Prelude.{◌≡◌, ◌<◌, ◌≤◌, false, List, [], ◌∷◌, ◌++◌, length, take, Option, Some, None, ℕ, IfNone, IfSome, slice_get}
 use Rattle.camac_branch.specs.Branch.{Answer}
+use Rattle.camac_checked.specs.Checked.{CheckedScript}
 use Rattle.camac_model.specs.Behaviour.{Behaviour, does, ends, stops, Piece}
 use Rattle.camac_machine.specs.MachineState.{Left}
 use Rattle.camac_machine.specs.Rest.{is_paused}
 use Rattle.camac_machine.specs.declared.item.Item.{Item}
+use Rattle.camac_machine.specs.declared.item.Item.TheVariants.{Demand}
 use Rattle.camac_run.specs.Holds.{told_of}
 use Rattle.camac_run.specs.Operation.{Begins, Waits, Wants, operation_of}
 use Rattle.camac_run.specs.Runner.{RunnerState, rest, last_words_in, GoesOn}
@@ -66,3 +68,11 @@ AheadIsMade =
     → old.overrun ≡ None → AreAhead os (rest old) → Plays old answers told new → length answers ≤ length os
     → (operations told ≡ take (length answers) os)
     × (length answers < length os → (length told ≡ length answers) × Wants new (slice_get os (length answers)))
+
+-- These operations a service surely makes first: after a demand that calls it, whatever was answered before, a runner has them ahead. As long as
+-- there are any, nothing but the demand was told.
+abbrev pub BeginsWith : CheckedScript → (service : ℕ) → List Wanted → Type 0
+BeginsWith c service os =
+    (old new : RunnerState) (a : Answer) (pattern : ℕ) (unlocks : List ℕ) (event : Option Left)
+    → old.checked ≡ c → old.pending ≡ None → GoesOn old a (Demand pattern (Some service)) unlocks event new
+    → AreAhead os (rest new) × (0 < length os → (unlocks ≡ []) × (event ≡ None))

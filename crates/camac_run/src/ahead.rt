@@ -11,6 +11,7 @@ ghost use Rattle.camac_machine.specs.Store.{held_at, registers_in, variables_in}
 ghost use Rattle.camac_model.specs.Fine.{most_turns};
 ghost use Rattle.camac_model.specs.Meaning.{Context, block_meaning, effect, for_from, for_state, for_turns};
 ghost use Rattle.camac_model.specs.State.{Variables, stepped};
+ghost use Rattle.camac_run.specs.Ahead.{BeginsWith};
 ghost use Rattle.camac_run.specs.Sure.{KnowsVariables, KnowsRegisters, KnowsLess, HasValue, After, chooses, context_of, Adds, AddsFollowing, Goes, one_operation};
 ghost use Rattle.camac_run.specs.declared.progress.Wanted.TheVariants.{Lock};
 
@@ -62,6 +63,16 @@ impl Known {
     {
         Known {
             variables: [None; limits::VARIABLES],
+            registers: [None; limits::REGISTERS],
+        }
+    }
+
+    // Where a service begins all variables are 0.
+    fn at_begin() -> Known
+        ensures { result ≡ record { variables = replicate 64 (Some 0); registers = replicate 64 None } }
+    {
+        Known {
+            variables: [Some(0); limits::VARIABLES],
             registers: [None; limits::REGISTERS],
         }
     }
@@ -155,6 +166,25 @@ pub fn add_following<const V: usize, const DEPTH: usize, const CAP: usize>(
         return;
     }
     add_open(machine, machine.frames.as_slice(), &mut known, coming);
+}
+
+/// The operations that the service of this number, from 0, surely makes first.
+pub fn service_ahead(checked: &Checked, number: usize) -> Ahead
+    ensures { BeginsWith checked.now number result.items }
+{
+    checked.is_checked();
+    checked.plan().is_plan();
+    let mut coming = Coming::nothing();
+    let services = checked.script().services();
+    if number >= services.len() {
+        return coming.ahead;
+    }
+    let service = &services[number];
+    let mut known = Known::at_begin();
+    let inside = Inside::of_all(checked);
+    let body = service.body.as_slice();
+    add_block(&inside, body, &mut known, &mut coming);
+    coming.ahead
 }
 
 // Forgets the variable of a read that is waited for.

@@ -15,7 +15,7 @@ mod service;
 mod sure;
 mod transfer;
 
-pub use ahead::{AHEAD, Ahead};
+pub use ahead::{AHEAD, Ahead, service_ahead};
 pub use back::Back;
 pub use camac_machine::Item;
 pub use items::Items;
