@@ -88,15 +88,21 @@ abbrev pub place_text : (text : Option (List ℕ)) → Spot → List ℕ
 place_text None s = codes "line " ++ decimal s.line
 place_text (Some text) s = codes "line " ++ decimal s.line ++ codes " column " ++ decimal (column_in text s)
 
--- how deep it stands, how often it is made, what one time costs, and its share
-abbrev pub row_costs : Row → List ℕ
-row_costs r =
-    codes " depth " ++ decimal r.depth ++ codes " " ++ kind_word r.kind ++ codes " times " ++ decimal r.times
+-- where a statement stands, how deep, how often it is made, and what one time costs
+abbrev pub row_start : (text : Option (List ℕ)) → Row → List ℕ
+row_start text r =
+    place_text text r.spot
+    ++ codes " depth " ++ decimal r.depth ++ codes " " ++ kind_word r.kind ++ codes " times " ++ decimal r.times
     ++ codes " cycles " ++ decimal r.each.cycles ++ codes " words " ++ decimal r.each.words ++ codes " steps " ++ decimal r.each.steps
-    ++ codes " share " ++ decimal r.share.cycles ++ codes " " ++ decimal r.share.words ++ codes " " ++ decimal r.share.steps
+
+-- its share, and what else there is to tell
+abbrev pub row_end : List Procedure → Row → List ℕ
+row_end ps r =
+    codes " share " ++ decimal r.share.cycles ++ codes " " ++ decimal r.share.words ++ codes " " ++ decimal r.share.steps
+    ++ detail_text ps r.detail ++ codes "\n"
 
 abbrev pub row_text : (text : Option (List ℕ)) → List Procedure → Row → List ℕ
-row_text text ps r = place_text text r.spot ++ (row_costs r ++ (detail_text ps r.detail ++ codes "\n"))
+row_text text ps r = row_start text r ++ row_end ps r
 
 -- what a body can cost, each number beside that of its heading
 abbrev pub procedure_line : Procedure → Bounds → List ℕ

@@ -1,9 +1,9 @@
 // The lines of `camac costs`.
 
-ghost use Rattle.std.specs.Prelude.{◌≡◌, ◌≤◌, ◌<◌, ◌+◌, ◌||◌, ◌++◌, [], codes, is_err, length, map, option_map, slice_get, unwrap_or};
+ghost use Rattle.std.specs.Prelude.{◌≡◌, ◌≤◌, ◌<◌, ◌+◌, ◌||◌, ◌++◌, [], decimal, is_err, length, map, option_map, slice_get, unwrap_or};
 ghost use Rattle.std.specs.List.{flat_map};
 ghost use Rattle.camac_lang.specs.View.{lam_of, procedure_of, service_of};
-ghost use Rattle.camac_check_costs.specs.Texts.{address_after, body_text, column_in, costs_text, detail_text, head_text, in_last_line, kind_word, place_text, procedure_line, procedure_name, range_text, region_text, row_costs, row_text, service_line, service_text, window_text};
+ghost use Rattle.camac_check_costs.specs.Texts.{address_after, body_text, column_in, costs_text, detail_text, head_text, in_last_line, kind_word, procedure_line, procedure_name, range_text, region_text, row_end, row_start, row_text, service_line, service_text, window_text};
 ghost use Rattle.camac_rules.specs.Windows.{window_of};
 ghost use Rattle.camac_word.specs.Watched.{inner_of, has_failed};
 ghost use Rattle.camac_word.specs.Writing.{Writes};
@@ -58,8 +58,10 @@ fn write_rows<W: Write>(
     ensures text { Writes (W.contents (inner_of out.old)) (W.contents (inner_of out.new)) result (flat_map (row_text (option_map (λ t. t.now) text.entry) (map procedure_of procedures.now)) rows.now) }
     ensures failed { has_failed out.new ≡ (has_failed out.old || is_err result) }
 {
+    // One for all rows, since it is forgotten at no cost.
+    let mut line = Line::new();
     'rows: for row in rows {
-        write_row(out, procedures, text, row)?;
+        write_row(out, procedures, text, row, &mut line)?;
     }
     Ok(())
 }
@@ -69,26 +71,39 @@ fn write_row<W: Write>(
     procedures: &[Procedure],
     text: Option<&[u8]>,
     row: &Row,
+    line: &mut Line,
 ) -> Result<(), WriteFault>
     ensures text { Writes (W.contents (inner_of out.old)) (W.contents (inner_of out.new)) result (row_text (option_map (λ t. t.now) text.entry) (map procedure_of procedures.now) row.now) }
     ensures failed { has_failed out.new ≡ (has_failed out.old || is_err result) }
 {
-    out.write_text(place_of_row(text, row.spot).as_bytes())?;
-    out.write_text(costs_of_row(row).as_bytes())?;
-    out.write_text(end_of_row(procedures, row.detail).as_bytes())
+    start_row(line, text, row);
+    out.write_text(line.as_bytes())?;
+    end_row(line, procedures, row);
+    out.write_text(line.as_bytes())
 }
 
-fn place_of_row(text: Option<&[u8]>, spot: Spot) -> Line
-    ensures { result ≡ place_text (option_map (λ t. t.now) text.entry) spot }
+fn start_row(line: &mut Line, text: Option<&[u8]>, row: &Row)
+    ensures { line.new ≡ row_start (option_map (λ t. t.now) text.entry) row.now }
 {
-    let mut line = Line::new();
+    line.clear();
     line.push_str("line ");
-    line.push_number(spot.line);
+    push_count(line, u64::from(row.spot.line));
     if let Some(text) = text {
         line.push_str(" column ");
-        line.push_number(column_in(text, spot));
+        push_count(line, column_in(text, row.spot) as u64);
     }
-    line
+    line.push_str(" depth ");
+    push_count(line, row.depth);
+    line.push_str(" ");
+    line.push_str(kind_word(row.kind));
+    line.push_str(" times ");
+    push_count(line, row.times);
+    line.push_str(" cycles ");
+    push_count(line, row.each.cycles());
+    line.push_str(" words ");
+    push_count(line, row.each.words());
+    line.push_str(" steps ");
+    push_count(line, row.each.steps());
 }
 
 // The column of a spot of a text, from 1.
@@ -106,54 +121,60 @@ fn in_last_line(bytes: &[u8]) -> usize
     bytes.iter().rev().take_while(|b| **b != b'\n').count()
 }
 
-fn costs_of_row(row: &Row) -> Line
-    ensures { result ≡ row_costs row.now }
+// Puts the number at the end, in decimal. It is quick where the number has at most four digits.
+fn push_count(line: &mut Line, number: u64)
+    requires { length line.old ≤ 236 }
+    ensures text { line.new ≡ line.old ++ decimal number }
+    ensures len { length line.new ≤ length line.old + 20 }
 {
-    let mut line = Line::new();
-    line.push_str(" depth ");
-    line.push_number(row.depth);
-    line.push_str(" ");
-    line.push_str(kind_word(row.kind));
-    line.push_str(" times ");
-    line.push_number(row.times);
-    line.push_str(" cycles ");
-    line.push_number(row.each.cycles());
-    line.push_str(" words ");
-    line.push_number(row.each.words());
-    line.push_str(" steps ");
-    line.push_number(row.each.steps());
-    line.push_str(" share ");
-    line.push_number(row.share.cycles());
-    line.push_str(" ");
-    line.push_number(row.share.words());
-    line.push_str(" ");
-    line.push_number(row.share.steps());
-    line
+    if number < 100 {
+        line.push_small(number as u8);
+    } else if number < 10_000 {
+        line.push_small((number / 100) as u8);
+        let tens = b'0' + (number / 10 % 10) as u8;
+        let ones = b'0' + (number % 10) as u8;
+        line.push_bytes(&[tens, ones]);
+    } else {
+        line.push_number(number);
+    }
 }
 
-fn end_of_row(procedures: &[Procedure], detail: Detail) -> Line
-    ensures { result ≡ detail_text (map procedure_of procedures.now) detail ++ codes "\n" }
+fn end_row(line: &mut Line, procedures: &[Procedure], row: &Row)
+    ensures { line.new ≡ row_end (map procedure_of procedures.now) row.now }
 {
-    let mut line = Line::new();
+    line.clear();
+    line.push_str(" share ");
+    push_count(line, row.share.cycles());
+    line.push_str(" ");
+    push_count(line, row.share.words());
+    line.push_str(" ");
+    push_count(line, row.share.steps());
+    push_detail(line, procedures, row.detail);
+    line.push_str("\n");
+}
+
+fn push_detail(line: &mut Line, procedures: &[Procedure], detail: Detail)
+    requires { length line.old ≤ 80 }
+    ensures text { line.new ≡ line.old ++ detail_text (map procedure_of procedures.now) detail }
+    ensures len { length line.new ≤ length line.old + 96 }
+{
     match detail {
         Detail::Nothing => {}
-        Detail::At(region) => push_region(&mut line, region),
+        Detail::At(region) => push_region(line, region),
         Detail::Turns(turns) => {
             line.push_str(" turns ");
             line.push_number(turns);
         }
-        Detail::Between(first, last) => push_window(&mut line, first, last),
+        Detail::Between(first, last) => push_window(line, first, last),
         Detail::Crates(crates) => {
             line.push_str(" crate ");
-            push_range(&mut line, crates);
+            push_range(line, crates);
         }
         Detail::Procedure(number) => {
             line.push_str(" proc ");
             line.push_bytes(name_of(procedures, number));
         }
     }
-    line.push_str("\n");
-    line
 }
 
 fn push_region(line: &mut Line, region: Region)
