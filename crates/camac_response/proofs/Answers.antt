@@ -444,7 +444,7 @@ module _ (ks : List Bounds) (ts : List Source) (cover : AreCovered ks ts)
       piece_in_time m x (lock_released n) h after c =
           service_in_time m.progress x h c.progress c.bounds c.is_in_progress c.are_its c.holds
       piece_in_time m x (event_left e) h after c =
-          service_in_time m.progress x h c.progress c.bounds c.is_in_progress c.are_its c.holds.most
+          λ serving. record { within = (service_in_time m.progress x h c.progress c.bounds c.is_in_progress c.are_its c.holds.most serving).within }
 
       pub pending_now : (o : Option Progress) (x : Stretch) → Timed o x → IsPending s source longest start x
       pending_now o x h = record {

@@ -1,6 +1,6 @@
 -- Look-at-mes as modules raise them, and how long they wait.
 use Rattle.std.specs.Prelude.{◌≡◌, ℕ, zero, suc, ◌+◌, ◌-◌, ◌<◌, ◌≤◌, true, List, Option, Some, None, slice_get}
-use Rattle.camac_model.specs.Behaviour.{Piece, demanded, cycled, lock_taken, lock_released, event_left}
+use Rattle.camac_model.specs.Behaviour.{Piece, demanded, cycled, lock_taken}
 use Rattle.camac_model.specs.Moments.{Watch}
 use Rattle.camac_response_times.specs.declared.source.Source.{Source}
 use Rattle.camac_response_times.specs.Response.{is_up_to}
@@ -81,12 +81,7 @@ IsOnce ts g x (Some i) = (t : Source) → slice_get ts i ≡ Some t → is_up_to
 -- a piece that begins at this clock: service s is called at most `start` cycles after its look-at-me, and has ended at most `end` cycles after it
 abbrev pub WaitsBy : Raises → ℕ → Source → (start : ℕ) → Clock → Piece → Type 0
 WaitsBy raises s source start y (demanded p v) = v ≡ Some s → y.time ≤ raises s (y.calls s) + start
-WaitsBy raises s source start y (cycled at f d r w) =
-    IsServing s y.stretch → y.time + (1 + w) ≤ raises s (y.calls s - 1) + (start + source.cycles)
-WaitsBy raises s source start y (lock_taken c w) =
-    IsServing s y.stretch → y.time + w ≤ raises s (y.calls s - 1) + (start + source.cycles)
-WaitsBy raises s source start y (lock_released c) = IsServing s y.stretch → y.time ≤ raises s (y.calls s - 1) + (start + source.cycles)
-WaitsBy raises s source start y (event_left e) = IsServing s y.stretch → y.time ≤ raises s (y.calls s - 1) + (start + source.cycles)
+WaitsBy raises s source start y piece = IsServing s y.stretch → time_after y.time piece ≤ raises s (y.calls s - 1) + (start + source.cycles)
 
 -- A look-at-me of service s that was raised and is not answered yet has waited `start` cycles at most. Of a service with no rate that is said of its
 -- first look-at-me in a stretch.

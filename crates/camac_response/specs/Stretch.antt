@@ -63,12 +63,7 @@ InTime s source cycles x = IsNoLonger ((x.calls s - 1) * period source.every + c
 -- at each call of service s, at each piece of it and at its event: it is in time
 abbrev pub AnswersBy : List Source → ℕ → Source → (start : ℕ) → Stretch → Piece → Type 0
 AnswersBy ts s source start x (demanded p v) = v ≡ Some s → InTime s source start (stretch_after ts source.bit x (demanded p v))
-AnswersBy ts s source start x (cycled at f d r w) =
-    IsServing s x → InTime s source (start + source.cycles) (stretch_after ts source.bit x (cycled at f d r w))
-AnswersBy ts s source start x (lock_taken c w) =
-    IsServing s x → InTime s source (start + source.cycles) (stretch_after ts source.bit x (lock_taken c w))
-AnswersBy ts s source start x (lock_released c) = IsServing s x → InTime s source (start + source.cycles) x
-AnswersBy ts s source start x (event_left e) = IsServing s x → InTime s source (start + source.cycles) x
+AnswersBy ts s source start x piece = IsServing s x → InTime s source (start + source.cycles) (stretch_after ts source.bit x piece)
 
 abbrev pub answers_watch : List Source → ℕ → Source → (start : ℕ) → Watch Stretch (Unit {0})
 answers_watch ts s source start =
