@@ -1,9 +1,4 @@
 pub mod Answered
 pub mod Calls
-pub mod Found
 pub mod Over
-pub mod Ran
-pub mod Read
-pub mod Responded
 pub mod Taken
-pub mod Values

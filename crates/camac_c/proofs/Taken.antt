@@ -1,47 +1,82 @@
--- A session's handle taken apart: nothing at null, else a lifetime, the box of the run, whose pointer may be compared with null, and the script's box for when the lifetime has ended. Assumes `Logic`.
-use Rattle.std.proofs.Common.{◌≡◌, ℕ, List, [], ◌∷◌, ◌++◌, refl, ap, ◌∙◌, subst}
-use mathlib.Core.Bool.{Bool, true, false, ◌&&◌}
+-- A session's handle taken apart, and the machine values that stand in it. Assumes `Logic`.
+use Rattle.std.proofs.Common.{◌≡◌, ℕ, List, [], ◌∷◌, ◌++◌, refl, subst, ap, ◌∙◌}
+use Rattle.std.proofs.GlobalToken.{dealloc_token-Testable}
+use Rattle.std.proofs.alloc.Global.TheLaws as heap_laws
+use Rattle.std.specs.Prelude.{Option, None, Some}
+use Rattle.std.specs.Global.{Global}
+use Rattle.std.specs.Box.Ownership.{box_owns as box_owns_of_ownership}
+use Rattle.std.specs.contracts.impls.GlobalAllocator.TheImpl.{ghosts}
+use Rattle.std.specs.contracts.alloc.Global as heap
+use mathlib.Core.Bool.{true, ◌&&◌, Bool, false}
 use lib.Dec.{T}
 use seplogic.Ra.Ura.{Ura}
 use mir.Syntax.{impl, tnil, dnil}
 use mir.Raw.{raw as bare}
-use mir.Val.{Val, vstruct, vcons, vnil, of_list, has_ty, WT}
-use base.Fraction.{full_share}
-use base.Fml.{flft, flent}
-use base.Logic.{ent, guard, via, snd∗, fst∗, never, guard_i}
+use mir.Val.{Val, vptr, vstruct, vcons, vnil, of_list, has_ty, WT}
+use base.Logic.{never, fst∗, ent, guard, via, snd∗, guard_i}
 use types.Logic.{Logic, sem}
-use types.Match.{live}
-use types.Kit.{Item, Goal, Seq, Step, step, ‵, given, ◌$◌, move, drop, fsplit, fsplit3, fjoin, fjoin3, fpick, fpack, feq_i, feq_l, use1, learn, rewrite}
-use contract.Monad.{fact_use}
+use types.Kit.{Item, Goal, Seq, Step, step, ‵, ◌$◌, move, drop, fsplit, fjoin, fpick, fpack, feq_i, feq_l, given, fsplit3, fjoin3, use1, learn, rewrite}
 use denote.RattleType.{RattleType, Valss}
-use denote.Laws.{Is, Lawful, Typed, shows}
 use denote.Builtin.{RawPtr}
 use denote.Memory.{lone}
-use denote.RawPtr.{Ptr, block_ptr, null_ptr, ptr_val, lies_at, in_a_block, Testable}
+use denote.RawPtr.{Ptr, block_ptr, null_ptr, ptr_val, in_a_block, lies_at, Testable}
 use denote.Steps.{nothing, peeks}
 use denote.Param.{layout}
+use denote.Param.Laws.{Laws}
 use denote.Struct.Struct.{within}
 use denote.Struct.Owning.{shape, to}
-use Rattle.core.proofs.alloc.Calls.{Al, handle_tells}
-use Rattle.core.proofs.atomic.Steps.{Ptr-Good}
-use Rattle.core.proofs.cell.Inside.{Good, one}
-use Rattle.std.specs.Prelude.{Option, None, Some}
+use Rattle.core.specs.declared.alloc.Allocator.{Ghosts}
 use Rattle.core.specs.declared.result.Result.{Result}
 use Rattle.core.specs.declared.result.Result.TheVariants.{Ok, Err}
 use Rattle.core.specs.contracts.result.Result as RS
-use Rattle.std.specs.Global.{Global}
-use Rattle.std.specs.Box.Ownership.{box_owns}
-use Rattle.std.specs.contracts.impls.GlobalAllocator.TheImpl.{ghosts}
-use Rattle.std.proofs.GlobalToken.{dealloc_token-Testable}
+use Rattle.core.proofs.alloc.Calls.{Al, handle_tells}
+use Rattle.core.proofs.cell.Inside.{Good, one}
+use Rattle.core.proofs.atomic.Steps.{Ptr-Good}
+use Rattle.std_alloc.specs.Box.Ownership.{box_owns}
 use Rattle.std_alloc.proofs.ResultValues.{and_tt}
-use Rattle.std.specs.contracts.alloc.Global as heap
-use Rattle.std.proofs.alloc.Global.TheLaws as heap_laws
+use Rattle.camac_c.specs.contracts.loose.Loose as loose
 use Rattle.camac_c.specs.Owned.{run_in, session_owns, run_boxed, script_boxed, open_at}
 use Rattle.camac_c.specs.declared.session.Session.{Session as Run}
-use Rattle.camac_checked.specs.contracts.checked.Checked as script
 use Rattle.camac_c.specs.contracts.handle.Handle as handle
-use Rattle.camac_c.specs.contracts.loose.Loose as loose
-use Rattle.camac_c.proofs.Values.{both}
+use base.Fraction.{full_share}
+use base.Fml.{flft, flent}
+use types.Match.{live}
+use contract.Monad.{fact_use}
+use denote.Laws.{Is, Lawful, Typed, shows}
+use Rattle.camac_checked.specs.contracts.checked.Checked as script
+
+-- The machine values of a `Loose`. Assumes `Logic`.
+
+abbrev pub both : Val → Val → Val
+both v w = vstruct (vcons v (vcons w vnil))
+
+module _ (R Z : RattleType) (L : Laws Z) (g : Ghosts Z.Denot) where
+  abbrev pub Loose : RattleType
+  Loose = loose.the_row R Z g
+
+  abbrev al : Al
+  al = record { row = Z; laws = L; g = g; d = impl [] tnil dnil; drops = impl [] tnil dnil }
+
+  pub loose_good : (b o : ℕ) (h : Val) → Good (layout Z) h → T (has_ty (layout Z) h && true) × WT (both (vptr b o) h)
+  loose_good b o h fits = (and_tt (has_ty (layout Z) h) fits.0, (tt, (fits.1, tt)))
+
+  module _ {M : Type 1} {𝓤 : Ura M} {𝓛 : Logic 𝓤} {K : Type 0} {Γ : List (Item 𝓤)} {G : Goal 𝓤 𝓛.H} where
+    pub loose_out : K → (d : Loose.Denot) (vs : List Val)
+        → ((b o : ℕ) (h : Val) → d.at ≡ block_ptr b o → vs ≡ both (vptr b o) h ∷ [] → Good (layout Z) h → Seq K 𝓛 (‵ (box_owns (g.dealloc_token d.alloc) R (block_ptr b o) d.value) ∷ ‵ (Z.own_val d.alloc (h ∷ [])) ∷ Γ) G)
+        → Seq K 𝓛 (‵ (Loose.own_val d vs) ∷ Γ) G
+    loose_out t d vs k =
+        fsplit t $ fpick t (λ vss. fsplit t $ feq_l t (λ ev. fsplit t $ feq_l t (λ ep. fsplit t $ handle_tells al t d.alloc vss.1.0 (λ h ea fits. move t (1 ∷ []) $ drop t $ move t (1 ∷ []) $
+        in_a_block t d.at (λ p. box_owns (g.dealloc_token d.alloc) R p d.value) (fst∗ 𝓤 (never 𝓤) (sem 𝓛 (g.dealloc_token d.alloc (bare (lone R.mir)) null_ptr))) (λ b o e. k b o h e
+        (subst (λ (p : Ptr). vs ≡ vstruct (of_list (ptr_val p ∷ h ∷ [])) ∷ []) e
+        (subst (λ (ws : List Val). vs ≡ vstruct (of_list (ptr_val d.at ∷ (ws ++ []))) ∷ []) ea (subst (λ (ps : List Val). vs ≡ vstruct (of_list (ps ++ (vss.1.0 ++ []))) ∷ []) ep ev))) fits)))))
+
+    pub loose_in : K → (b o : ℕ) (h : Val) (a : Z.Denot) (x : R.Denot)
+        → Step K 𝓛 (‵ (Loose.own_val (record { at = block_ptr b o; alloc = a; value = x }) (both (vptr b o) h ∷ [])) ∷ Γ) G (‵ (box_owns (g.dealloc_token a) R (block_ptr b o) x) ∷ ‵ (Z.own_val a (h ∷ [])) ∷ Γ) G
+    loose_in t b o h a x = step (λ s. let v : Val = both (vptr b o) h in
+        nothing t $ move t (2 ∷ 0 ∷ []) $ fjoin t $ feq_i t (List Val) (vptr b o ∷ []) (vptr b o ∷ []) refl $ fjoin t $ feq_i t (List Val) (v ∷ []) (v ∷ []) refl $ fjoin t $
+        fpack t (Valss (RawPtr ∷ Z ∷ [])) (within (shape (loose.the_type R Z g)) (block_ptr b o, (a, tt)) (v ∷ [])) (vptr b o ∷ [], (h ∷ [], tt)) $ fjoin t $ s)
+
+-- A session's handle taken apart: nothing at null, else a lifetime, the box of the run, whose pointer may be compared with null, and the script's box for when the lifetime has ended. Assumes `Logic`.
 
 abbrev Z : RattleType
 Z = heap.the_row
@@ -63,8 +98,8 @@ pub both_good : (p : Ptr) (h : Val) → Good (layout Z) h → T (has_ty mir.Synt
 both_good p h fits = (and2 _ _ (Ptr-Good p).0 (and_tt (has_ty (layout Z) h) fits.0), ((Ptr-Good p).1, (fits.1, tt)))
 
 module _ {M : Type 1} {𝓤 : Ura M} (𝓛 : Logic 𝓤) where
-  tested : (a : Global) (R : RattleType) (p : Ptr) (x : R.Denot) → ent 𝓤 (sem 𝓛 (box_owns (ghosts.dealloc_token a) R p x)) (guard 𝓤 (Testable p) (sem 𝓛 (box_owns (ghosts.dealloc_token a) R p x)))
-  tested a R p x = fact_use 𝓤 (Testable p) (via 𝓤 _ (snd∗ 𝓤 (sem 𝓛 (lies_at R full_share p x)) (sem 𝓛 (ghosts.dealloc_token a (bare (lone R.mir)) p))) (dealloc_token-Testable 𝓛 a (bare (lone R.mir)) p)) (guard_i 𝓤 (Testable p) (sem 𝓛 (box_owns (ghosts.dealloc_token a) R p x)))
+  tested : (a : Global) (R : RattleType) (p : Ptr) (x : R.Denot) → ent 𝓤 (sem 𝓛 (box_owns_of_ownership (ghosts.dealloc_token a) R p x)) (guard 𝓤 (Testable p) (sem 𝓛 (box_owns_of_ownership (ghosts.dealloc_token a) R p x)))
+  tested a R p x = fact_use 𝓤 (Testable p) (via 𝓤 _ (snd∗ 𝓤 (sem 𝓛 (lies_at R full_share p x)) (sem 𝓛 (ghosts.dealloc_token a (bare (lone R.mir)) p))) (dealloc_token-Testable 𝓛 a (bare (lone R.mir)) p)) (guard_i 𝓤 (Testable p) (sem 𝓛 (box_owns_of_ownership (ghosts.dealloc_token a) R p x)))
 
 module _ {M : Type 1} {𝓤 : Ura M} {𝓛 : Logic 𝓤} {K : Type 0} {Γ : List (Item 𝓤)} {G : Goal 𝓤 𝓛.H} where
   pub handle_out : K → (d : handle.the_row.Denot) (vs : List Val)
@@ -89,7 +124,7 @@ module _ {M : Type 1} {𝓤 : Ura M} {𝓛 : Logic 𝓤} {K : Type 0} {Γ : List
 
   -- a `Loose` at any pointer
   pub loose_in_at : K → (R : RattleType) (p : Ptr) (h : Val) (a : Global) (x : R.Denot)
-      → Step K 𝓛 (‵ ((loose.the_row R Z ghosts).own_val (record { at = p; alloc = a; value = x }) (both (ptr_val p) h ∷ [])) ∷ Γ) G (‵ (box_owns (ghosts.dealloc_token a) R p x) ∷ ‵ (Z.own_val a (h ∷ [])) ∷ Γ) G
+      → Step K 𝓛 (‵ ((loose.the_row R Z ghosts).own_val (record { at = p; alloc = a; value = x }) (both (ptr_val p) h ∷ [])) ∷ Γ) G (‵ (box_owns_of_ownership (ghosts.dealloc_token a) R p x) ∷ ‵ (Z.own_val a (h ∷ [])) ∷ Γ) G
   loose_in_at t R p h a x = step (λ s. let v : Val = both (ptr_val p) h in
       nothing t $ move t (2 ∷ 0 ∷ []) $ fjoin t $ feq_i t (List Val) (ptr_val p ∷ []) (ptr_val p ∷ []) refl $ fjoin t $ feq_i t (List Val) (v ∷ []) (v ∷ []) refl $ fjoin t $
       fpack t (Valss (RawPtr ∷ Z ∷ [])) (within (shape (loose.the_type R Z ghosts)) (p, (a, tt)) (v ∷ [])) (ptr_val p ∷ [], (h ∷ [], tt)) $ fjoin t $ s)

@@ -1,46 +1,106 @@
--- What is accepted of single actions and transfers makes only the commands that are told of it.
-use Rattle.std.proofs.Common.{◌≡◌, ℕ, ◌+◌, ◌<◌, ◌≤◌, Bool, true, false, List, [], ◌∷◌, Option, Some, None, Result, Ok, Err, refl, sym, ap, subst, ◌∙◌, arith}
+-- Behaviours all of whose cycles are on a list: those of single actions, of transfers and of loops.
+use Rattle.std.proofs.Common.{◌≡◌, ℕ, List, ◌++◌, Option, Some, None, true, refl, sym, subst, ◌∙◌, ◌+◌, ◌<◌, ◌≤◌, Bool, false, [], ◌∷◌, Result, Ok, Err, ap, arith, zero, suc}
+use Rattle.std.proofs.lemmas.Bool.{and_from, or_left, or_right, eq-eqb, le-leb, and_parts, cond_both, eqb-true, ltb-true}
+use Rattle.std.proofs.lemmas.List.Folds.{list_any-append}
 use Rattle.std.specs.List.{list_any}
-use Rattle.std.specs.Prelude.{nat_eq, nat_lt, option_map, slice_get, if◌then◌else◌}
-use Rattle.std.proofs.lemmas.Bool.{and_parts, cond_both, eqb-true, le-leb, ltb-true}
+use Rattle.std.specs.Prelude.{◌&&◌, nat_eq, nat_le, nat_lt, option_map, slice_get, if◌then◌else◌}
+use Rattle.camac_range.specs.Interval.{Interval, IsWithin, interval}
+use Rattle.camac_branch.specs.Address.{Address}
+use Rattle.camac_branch.specs.Allowed.{width}
+use Rattle.camac_branch.specs.Plan.{Layout}
+use Rattle.camac_model.specs.State.{State, stepped, with_variable}
+use Rattle.camac_model.specs.Behaviour.{Piece, demanded, cycled, lock_taken, lock_released, event_left, Behaviour, does, ends, stops, Stop, Action, then_do, given, unless_wrong, more, decide}
+use Rattle.camac_model.specs.Headline.{no_count, nothing}
+use Rattle.camac_model.specs.Moments.{Meets, Any, AnyStop}
+use Rattle.camac_model.specs.Cycle.{cycle, sized, kept}
+use Rattle.camac_model.specs.Meaning.{fits_size, act, transfer_to, sent, effect, for_state, for_turns, turns}
+use Rattle.camac_model.specs.Value.{value, truth}
+use Rattle.camac_model.proofs.Rules.{cycle_meets, unless_meets, transfer_meets}
+use Rattle.camac_rules.specs.Known.{Region, region, region_at, Facts, with_range}
+use Rattle.camac_rules.specs.Fault.{Fault}
+use Rattle.camac_rules.specs.Expressions.{range_of}
+use Rattle.camac_rules.specs.Calls.{single_region, lam_region, crate_rule, lam_rule}
+use Rattle.camac_rules.specs.Cycles.{single_rule}
+use Rattle.camac_rules.specs.Transfers.{has_sub_addresses, block_region, scan_rule, q_stop_rule, q_repeat_rule}
+use Rattle.camac_rules.specs.Conditions.{Branches}
+use Rattle.camac_rules.specs.Costs.{loop_costs, Verdict}
+use Rattle.camac_rules.specs.Loops.{Limits, head, turns_between, values_between, turn_bound}
+use Rattle.camac_rules.proofs.Stores.{InRegion, Place, around_of, Inside, fixing, Reaches}
+use Rattle.camac_rules.proofs.Sound.{step, SafePiece, StopsWell, stepped_reaches}
+use Rattle.camac_rules.proofs.Allows.{Allows, allowed, then_allowed, required_allowed, given_allowed, allowed_more}
+use Rattle.camac_rules.proofs.Values.{range_each, only_within, Fits}
+use Rattle.camac_rules.proofs.Actions.{Setting, of, seen, value_of, address_of}
+use Rattle.camac_rules.proofs.Conditions.{Decides}
+use Rattle.camac_rules.proofs.ForLoops as counting
+use Rattle.camac_rules.proofs.WhileLoops as turning
+use Rattle.camac_commands.specs.Commands.{Command, is_told, lies_in, IsListed, made_at, span, told_region, called_at}
+use Rattle.camac_lang.specs.declared.spot.Spot.{Spot}
 use Rattle.camac_lang.specs.declared.word.CrateCall.{CrateCall}
 use Rattle.camac_lang.specs.declared.word.CrateCall.TheVariants.{Initialise, Clear, InhibitOn, InhibitOff, TestInhibit, DemandOn, DemandOff, TestDemandOutput, TestDemand}
 use Rattle.camac_lang.specs.declared.word.LamCall.{LamCall}
 use Rattle.camac_lang.specs.declared.word.WordSize.{WordSize}
 use Rattle.camac_lang.specs.declared.word.WordSize.TheVariants.{Full}
-use Rattle.camac_lang.specs.Tree.{Expression, Move, no_data, into, from, single, address_scan, q_stop, q_repeat, crate_call, lam_call}
-use Rattle.camac_range.specs.Interval.{interval}
+use Rattle.camac_lang.specs.Tree.{Expression, Move, no_data, into, from, single, address_scan, q_stop, q_repeat, crate_call, lam_call, Condition, Keep, Block}
 use Rattle.camac_func.specs.declared.data.DataMove.TheVariants as moved
-use Rattle.camac_branch.specs.Address.{Address}
-use Rattle.camac_branch.specs.Allowed.{width}
-use Rattle.camac_branch.specs.Plan.{Layout}
 use Rattle.camac_esone.specs.Calls.{crate_address, crate_function, lam_function}
 use Rattle.camac_esone.specs.Transfers.{NextAddress, tally, successor, next_station, address_after, q_stop_next, q_repeat_next, scan_next}
 use Rattle.camac_esone.proofs.QStopLists as stop
 use Rattle.camac_esone.proofs.QRepeatLists as repeats
 use Rattle.camac_esone.proofs.ScanLists.{wanted_goes_on, by_station}
-use Rattle.camac_model.specs.State.{State, stepped, with_variable}
-use Rattle.camac_model.specs.Behaviour.{ends, Action, given, unless_wrong}
-use Rattle.camac_model.specs.Cycle.{cycle, sized, kept}
-use Rattle.camac_model.specs.Headline.{no_count, nothing}
-use Rattle.camac_model.specs.Meaning.{fits_size, act, transfer_to, sent, effect}
-use Rattle.camac_model.specs.Moments.{Any, AnyStop}
-use Rattle.camac_model.specs.Value.{value}
-use Rattle.camac_model.proofs.Rules.{cycle_meets, unless_meets, transfer_meets}
-use Rattle.camac_rules.specs.Fault.{Fault}
-use Rattle.camac_rules.specs.Known.{Region, region, region_at, Facts}
-use Rattle.camac_rules.specs.Expressions.{range_of}
-use Rattle.camac_rules.specs.Calls.{single_region, lam_region, crate_rule, lam_rule}
-use Rattle.camac_rules.specs.Cycles.{single_rule}
-use Rattle.camac_rules.specs.Transfers.{has_sub_addresses, block_region, scan_rule, q_stop_rule, q_repeat_rule}
-use Rattle.camac_rules.proofs.Allows.{Allows, allowed, then_allowed, required_allowed, given_allowed, allowed_more}
-use Rattle.camac_rules.proofs.Stores.{Place, around_of, InRegion, Inside}
-use Rattle.camac_rules.proofs.Values.{range_each, only_within}
-use Rattle.camac_rules.proofs.Actions.{Setting, of, seen, value_of, address_of}
 use Rattle.camac_check_rows.specs.Statements.{at_region, between, in_crates}
-use Rattle.camac_commands.specs.Commands.{Command, is_told, IsListed, made_at, span, told_region, called_at}
-use Rattle.camac_commands.proofs.Listed.{Listed, told_at, listed_given, listed_any}
-use Rattle.camac_lang.specs.declared.spot.Spot.{Spot}
+
+-- Behaviours all of whose cycles are on a list: they stay so as the list grows, and part by part.
+
+abbrev pub Listed : List Command → Behaviour State → Type 0
+Listed cs b = Meets no_count (IsListed cs) AnyStop Any nothing b
+
+pub inside_lies : (g : Region) (at : Address) → InRegion g at → lies_in g at ≡ true
+inside_lies g at h =
+    let both : (i : Interval) (n : ℕ) → IsWithin i n → (nat_le i.lo n && nat_le n i.hi) ≡ true =
+    λ i n w. and_from (nat_le i.lo n) (nat_le n i.hi) (le-leb i.lo n w.low) (le-leb n i.hi w.high) in
+    and_from (nat_le g.crates.lo at.crate_no && nat_le at.crate_no g.crates.hi) _ (both g.crates at.crate_no h.crate_no)
+    (and_from (nat_le g.stations.lo at.station && nat_le at.station g.stations.hi) _ (both g.stations at.station h.station)
+    (both g.sub_addresses at.sub_address h.sub_address))
+
+-- a cycle at a known address
+pub told_at : (spot : Spot) (f : ℕ) (g : Region) (at : Address) → InRegion g at → list_any (is_told at f) (made_at spot f (Some g)) ≡ true
+told_at spot f g at h = or_left (nat_eq f f && lies_in g at) _ (and_from (nat_eq f f) (lies_in g at) (eq-eqb f f refl) (inside_lies g at h))
+
+listed_piece : (cs ds : List Command) → ((at : Address) (f : ℕ) → list_any (is_told at f) cs ≡ true → list_any (is_told at f) ds ≡ true) → (p : Piece) → IsListed cs nothing p → IsListed ds nothing p
+listed_piece cs ds further (demanded p v) h = tt
+listed_piece cs ds further (cycled at f d r w) h = further at f h
+listed_piece cs ds further (lock_taken c w) h = tt
+listed_piece cs ds further (lock_released c) h = tt
+listed_piece cs ds further (event_left e) h = tt
+
+pub listed_more : (cs ds : List Command) → ((at : Address) (f : ℕ) → list_any (is_told at f) cs ≡ true → list_any (is_told at f) ds ≡ true) → (b : Behaviour State) → Listed cs b → Listed ds b
+listed_more cs ds further (does p b) h = (listed_piece cs ds further p h.0, listed_more cs ds further b h.1)
+listed_more cs ds further (ends s) h = tt
+listed_more cs ds further (stops w s) h = tt
+
+-- a behaviour on the first list, and one on the second, are on both together
+pub listed_first : (cs ds : List Command) (b : Behaviour State) → Listed cs b → Listed (cs ++ ds) b
+listed_first cs ds b h = listed_more cs (cs ++ ds) (λ at f e. list_any-append (is_told at f) cs ds ∙ or_left (list_any (is_told at f) cs) _ e) b h
+
+pub listed_second : (cs ds : List Command) (b : Behaviour State) → Listed ds b → Listed (cs ++ ds) b
+listed_second cs ds b h = listed_more ds (cs ++ ds) (λ at f e. list_any-append (is_told at f) cs ds ∙ or_right (list_any (is_told at f) cs) (list_any (is_told at f) ds) e) b h
+
+-- one part and then another, from what holds at the end of the first
+pub listed_then : (cs : List Command) (S : Unit {0} → Piece → Type 0) (P : Unit {0} → Stop → State → Type 0) (Q : Unit {0} → State → Type 0) (b : Behaviour State) (go : Action)
+    → Meets step S P Q tt b → Listed cs b → ((t : State) → Q tt t → Listed cs (go t)) → Listed cs (then_do b go)
+listed_then cs S P Q (does p b) go h k f = (k.0, listed_then cs S P Q b go h.1 k.1 f)
+listed_then cs S P Q (ends t) go h k f = f t h
+listed_then cs S P Q (stops w t) go h k f = tt
+
+-- goes on with what is there
+pub listed_given : {A : Type 0} (cs : List Command) (o : Option A) (go : A → Action) (v : A) (s : State) → o ≡ Some v → Listed cs (go v s) → Listed cs (given o go s)
+listed_given cs o go v s e h = subst (λ p. Listed cs (given p go s)) (sym e) h
+
+pub listed_any : {A : Type 0} (cs : List Command) (o : Option A) (go : A → Action) (s : State) → ((v : A) → o ≡ Some v → Listed cs (go v s)) → Listed cs (given o go s)
+listed_any cs None go s h = tt
+listed_any cs (Some v) go s h = h v refl
+
+-- What is accepted of single actions and transfers makes only the commands that are told of it.
 
 -- what holds of any result
 pub always : {A : Type 0} {P : Type 0} (r : Result A Fault) → P → Allows r (λ _. P)
@@ -284,3 +344,52 @@ crate_listed c around n spot which e k =
     subst (λ q. Listed (made_at spot f (called_at which (in_crates q))) (given (value e s.variables) call (stepped s))) (sym known.0)
     (listed_given cs (value e s.variables) call r.lo (stepped s) (v.is ∙ ap (λ m. Some m) same)
     (act_listed cs c.plan at f Full no_data (stepped s) (told_at spot f place at inside))))))
+
+-- The turns of loops, each of which makes only what its body may.
+
+-- of a `for`, from a state between them
+module _ (plan : Layout) (around : Place) (x : ℕ) (qs : List Keep) (body : Block) (k : Facts) (l : Limits) (turn : Verdict) (run : Action) (h : counting.Checked plan around x body qs k l turn run)
+    (s : State) (i : Inside around k s) (v w : ℕ) (f : Fits l.first v) (g : Fits l.last w) (cs : List Command)
+    (lists : (t : State) → Inside (fixing x around) (with_range x (values_between l) (head body qs k)) t → Listed cs (run t)) where
+  pub for_listed : (left allowed current : ℕ) (t : State) → counting.Turned plan around x body qs k l turn run h s i v w f g left current t → Listed cs (for_turns left allowed x current w run t)
+  for_listed zero n current t b = tt
+  for_listed (suc j) zero current t b = tt
+  for_listed (suc j) (suc n) current t b =
+      let u : State = for_state x current t in
+      listed_then cs (SafePiece plan) (StopsWell (loop_costs (turns_between l) turn.costs) s) (λ y. counting.Turned plan around x body qs k l turn run h s i v w f g j (current + 1)) (run u) (for_turns j n x (current + 1) w run)
+      (counting.one_turn plan around x body qs k l turn run h s i v w f g j current t b)
+      (lists u (counting.turn_begins plan around x body qs k l turn run h s i v w f g j current t b))
+      (λ y q. for_listed j n (current + 1) y q)
+
+-- of a `while`
+module _ (plan : Layout) (around : Place) (test : Condition) (most m fall : ℕ) (qs : List Keep) (body : Block) (k : Facts) (arms : Branches) (turn : Verdict) (run : Action)
+    (h : turning.Checked plan around test most m fall qs body k arms turn run) (s : State) (i : Inside around k s) (cs : List Command)
+    (lists : (t : State) → Reaches around arms.holds t → Listed cs (run t)) where
+  abbrev Left : ℕ → ℕ → State → Type 0
+  Left left allowed t = turning.Turned plan around test most m fall qs body k arms turn run h s i left allowed t
+
+  turn_listed : (left n : ℕ) (t : State) → ((j : ℕ) (u : State) → Left j n u → Listed cs (turns n test run u)) → Left left (suc n) t → Reaches around arms.holds t
+      → Listed cs (then_do (run (stepped t)) (turns n test run))
+  turn_listed zero n t others b r = absurd (turning.one_is_left plan around test most m fall qs body k arms turn run h s i (suc n) t b r)
+  turn_listed (suc left) n t others b r =
+      listed_then cs (SafePiece plan) (StopsWell (loop_costs (turn_bound arms.holds most) turn.costs) s) (λ y. Left left n) (run (stepped t)) (turns n test run)
+      (turning.one_turn plan around test most m fall qs body k arms turn run h s i n left t b r)
+      (lists (stepped t) (stepped_reaches around arms.holds t r)) (λ u q. others left u q)
+
+  by_test : (o : Option Bool) (go : Action) (t : State) → Decides around o arms t → (Reaches around arms.holds t → Listed cs (go t)) → Listed cs (decide o go ends t)
+  by_test None go t d f = tt
+  by_test (Some true) go t d f = f d
+  by_test (Some false) go t d f = tt
+
+  pub while_listed : (left allowed : ℕ) (t : State) → Left left allowed t → Listed cs (turns allowed test run t)
+  while_listed left zero t b =
+      none_left (truth test t.variables t.q t.x)
+    where
+      none_left : (o : Option Bool) → Listed cs (decide o (stops more) ends t)
+      none_left None = tt
+      none_left (Some true) = tt
+      none_left (Some false) = tt
+  while_listed left (suc n) t b =
+      by_test (truth test t.variables t.q t.x) (λ u. then_do (run (stepped u)) (turns n test run)) t
+      (turning.decided plan around test most m fall qs body k arms turn run h s i left (suc n) t (truth test t.variables t.q t.x) b refl)
+      (λ r. turn_listed left n t (λ j u q. while_listed j n u q) b r)

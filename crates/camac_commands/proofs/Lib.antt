@@ -1,10 +1,5 @@
-pub mod Listed
-pub mod Wider
-pub mod Sorts
-pub mod ByRows
 pub mod Actions
-pub mod Loops
-pub mod Matches
+pub mod ByRows
 pub mod Statements
 pub mod Made
 pub mod Services

@@ -55,12 +55,9 @@ use Rattle.camac_check_rows.specs.Rows.{found, Turning, turning_from, lock_insid
 use Rattle.camac_check_rows.specs.Turns.{turned, turns_over}
 use Rattle.camac_commands.specs.Commands.{Command, is_told, behind, behind_block, made_at}
 use Rattle.camac_commands.specs.Surely.{has_turn, is_some_number, surely, surely_block, made_one, AnyPiece, IsMade, TellsOf}
-use Rattle.camac_commands.proofs.ByRows.{Over, over_block, listed_over, over_turn, over_next, over_arms}
-use Rattle.camac_commands.proofs.Sorts.{block_sorted}
-use Rattle.camac_commands.proofs.Listed.{Listed}
-use Rattle.camac_commands.proofs.Actions.{always, with_result, single_listed, q_stop_listed, q_repeat_listed, lam_listed}
-use Rattle.camac_commands.proofs.Matches.{Matches, matches_at}
-use Rattle.camac_commands.proofs.Statements.{both_allowed, each_begun, turn_begins}
+use Rattle.camac_commands.proofs.ByRows.{Over, over_block, listed_over, over_turn, over_next, over_arms, block_sorted}
+use Rattle.camac_commands.proofs.Actions.{Listed, always, with_result, single_listed, q_stop_listed, q_repeat_listed, lam_listed}
+use Rattle.camac_commands.proofs.Statements.{Matches, matches_at, both_allowed, each_begun, turn_begins}
 use Rattle.camac_lang.specs.declared.spot.Spot.{Spot}
 
 -- ---- behaviours that make a cycle that is meant

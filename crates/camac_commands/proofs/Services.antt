@@ -37,10 +37,8 @@ use Rattle.camac_check_rows.specs.Rows.{block_rows}
 use Rattle.camac_commands.specs.Commands.{Command, MakesOnly, made_block, told_over, commands_of, CyclesAreListed}
 use Rattle.camac_commands.specs.Surely.{surely_block, surely_of, MakesOne, TellsOf, SureOnesAreMade}
 use Rattle.camac_commands.proofs.ByRows.{Over, over_body}
-use Rattle.camac_commands.proofs.Listed.{Listed}
-use Rattle.camac_commands.proofs.Actions.{always, with_result}
-use Rattle.camac_commands.proofs.Matches.{Matches, matches_all, matches_push}
-use Rattle.camac_commands.proofs.Statements.{RoutineLists, both_allowed, block_lists}
+use Rattle.camac_commands.proofs.Actions.{Listed, always, with_result}
+use Rattle.camac_commands.proofs.Statements.{Matches, matches_all, matches_push, RoutineLists, both_allowed, block_lists}
 use Rattle.camac_commands.proofs.Made.{Makes, RoutineMakes, block_makes}
 
 module _ (plan : Layout) (script : Script) (narrow : HasWidths plan) where

@@ -1,33 +1,21 @@
--- What is accepted makes only the commands that are listed of it: one induction over statements.
-use Rattle.std.proofs.Common.{◌≡◌, ℕ, ◌+◌, ◌-◌, ◌<◌, ◌≤◌, zero, suc, List, [], ◌∷◌, ◌++◌, Option, Some, None, Result, Ok, Err, Bool, true, false, refl, sym, ap, subst, ◌∙◌, arith}
-use Rattle.std.specs.Prelude.{drop, nat_le, nat_lt, slice_get, unwrap_or, if◌then◌else◌}
+-- What is accepted makes only the commands that are listed of it: procedures, and one induction over statements.
+use Rattle.std.proofs.Common.{◌≡◌, ℕ, zero, suc, List, [], ◌∷◌, ◌++◌, Some, subst, ◌+◌, ◌-◌, ◌<◌, ◌≤◌, Option, None, Result, Ok, Err, Bool, true, false, refl, sym, ap, ◌∙◌, arith}
 use Rattle.std.proofs.lemmas.Bool.{and_parts, leb-true, ltb-true}
-use Rattle.camac_lang.specs.Tree.{Expression, Condition, Keep, Statement, assign, set_register, single, address_scan, q_stop, q_repeat, put, crate_call, lam_call, choose, choose_else, for_, for_each, while_, locked, call, Block, done, next, Procedure}
-use Rattle.camac_range.specs.Number.{greatest}
-use Rattle.camac_range.specs.Interval.{only}
+use Rattle.std.specs.Prelude.{slice_get, unwrap_or, drop, nat_le, nat_lt, if◌then◌else◌}
+use Rattle.camac_lang.specs.Tree.{Procedure, Expression, Condition, Keep, Statement, assign, set_register, single, address_scan, q_stop, q_repeat, put, crate_call, lam_call, choose, choose_else, for_, for_each, while_, locked, call, Block, done, next}
+use Rattle.camac_lang.specs.declared.spot.Spot.{Spot}
+use Rattle.camac_branch.specs.Plan.{Layout, crate_waits}
 use Rattle.camac_branch.specs.Address.{address}
-use Rattle.camac_branch.specs.Plan.{crate_waits}
+use Rattle.camac_model.specs.Behaviour.{Action, ends, then_do, given, decide}
+use Rattle.camac_model.specs.Meaning.{Context, with_procedure, routines_with, block_meaning, for_state, for_turns, for_from, entered, enter, effect}
 use Rattle.camac_model.specs.State.{State, stepped, with_variable, with_register, with_word}
-use Rattle.camac_model.specs.Behaviour.{ends, Action, then_do, given, decide}
 use Rattle.camac_model.specs.Cycle.{after_lock, take_lock, release}
 use Rattle.camac_model.specs.Fine.{most_turns, AreInRanges}
 use Rattle.camac_model.specs.Headline.{no_count, nothing}
-use Rattle.camac_model.specs.Meaning.{for_state, for_turns, for_from, entered, enter, effect, block_meaning}
 use Rattle.camac_model.specs.Moments.{Any, AnyStop}
 use Rattle.camac_model.specs.Value.{value, values, truth}
 use Rattle.camac_model.proofs.Rules.{then_meets, enter_meets, lock_meets}
-use Rattle.camac_rules.specs.Fault.{Fault}
-use Rattle.camac_rules.specs.Refusal.{go_on, if_reached}
-use Rattle.camac_rules.specs.Known.{Facts, Known, with_range}
-use Rattle.camac_rules.specs.Conditions.{Branches, branches, split}
-use Rattle.camac_rules.specs.Costs.{Verdict, unreached}
-use Rattle.camac_rules.specs.Calls.{lock_rule}
-use Rattle.camac_rules.specs.Capped.{capped}
-use Rattle.camac_rules.specs.Cycles.{Around}
-use Rattle.camac_rules.specs.Each.{each_turns, each_from, each_begins, each_rule}
-use Rattle.camac_rules.specs.Procedures.{call_rule}
-use Rattle.camac_rules.specs.Loops.{Limits, for_limits, for_head, head, keeps_hold_after, turns_between, values_between, while_head, turn_bound}
-use Rattle.camac_rules.specs.Statements.{accept_statement, accept_block}
+use Rattle.camac_rules.proofs.Settings.{Matched}
 use Rattle.camac_rules.proofs.Allows.{Allows, allowed as allows, then_allowed, required_allowed, given_allowed, if_reached_allowed, allowed_more}
 use Rattle.camac_rules.proofs.Stores.{Place, around_of, fixing, holding, Inside, Reaches}
 use Rattle.camac_rules.proofs.Conditions.{Decides, split_each}
@@ -42,18 +30,71 @@ use Rattle.camac_rules.proofs.WhileLoops.{MayTurn, head_allowed}
 use Rattle.camac_rules.proofs.Lockless.{has_lock, block_has_lock}
 use Rattle.camac_rules.proofs.Routines.{AreSmall, Serves, AllFit, GiveAll, ranges_each, in_ranges, are_small}
 use Rattle.camac_rules.proofs.Statements.{may_first, may_second, reached_sound, statement_sound, block_sound}
+use Rattle.camac_rules.specs.Fault.{Fault}
+use Rattle.camac_rules.specs.Refusal.{go_on, if_reached}
+use Rattle.camac_rules.specs.Known.{Facts, Known, with_range}
+use Rattle.camac_rules.specs.Conditions.{Branches, branches, split}
+use Rattle.camac_rules.specs.Costs.{Verdict, unreached}
+use Rattle.camac_rules.specs.Calls.{lock_rule}
+use Rattle.camac_rules.specs.Capped.{capped}
+use Rattle.camac_rules.specs.Cycles.{Around}
+use Rattle.camac_rules.specs.Each.{each_turns, each_from, each_begins, each_rule}
+use Rattle.camac_rules.specs.Procedures.{call_rule}
+use Rattle.camac_rules.specs.Loops.{Limits, for_limits, for_head, head, keeps_hold_after, turns_between, values_between, while_head, turn_bound}
+use Rattle.camac_rules.specs.Statements.{accept_statement, accept_block}
+use Rattle.camac_range.specs.Number.{greatest}
+use Rattle.camac_range.specs.Interval.{only}
 use Rattle.camac_check.proofs.Capped.{in_code}
 use Rattle.camac_check_rows.specs.declared.row.Row.{Row}
 use Rattle.camac_check_rows.specs.Rows.{found, Turning, turning_from, lock_inside, lock_head, block_verdict, statement_rows, block_rows}
 use Rattle.camac_check_rows.specs.Turns.{merge, Turned, turned, turns_over}
 use Rattle.camac_commands.specs.Commands.{Command, IsListed, made_alone, detail_told, behind, behind_block, made, made_block}
-use Rattle.camac_commands.proofs.ByRows.{Over, over_block, listed_over, over_turn, after_block, over_next, over_arms}
-use Rattle.camac_commands.proofs.Sorts.{block_sorts, AreOf, merge_of, block_sorted}
-use Rattle.camac_commands.proofs.Listed.{Listed, listed_first, listed_second, listed_then, listed_given, listed_any}
-use Rattle.camac_commands.proofs.Actions.{always, with_result, single_listed, scan_listed, q_stop_listed, q_repeat_listed, crate_listed, lam_listed}
-use Rattle.camac_commands.proofs.Matches.{Matches, matches_at}
-use Rattle.camac_commands.proofs.Loops.{for_listed, while_listed}
-use Rattle.camac_lang.specs.declared.spot.Spot.{Spot}
+use Rattle.camac_commands.proofs.ByRows.{Over, over_block, listed_over, over_turn, after_block, over_next, over_arms, block_sorts, AreOf, merge_of, block_sorted}
+use Rattle.camac_commands.proofs.Actions.{Listed, listed_first, listed_second, listed_then, listed_given, listed_any, always, with_result, single_listed, scan_listed, q_stop_listed, q_repeat_listed, crate_listed, lam_listed, for_listed, while_listed}
+
+-- What is told of each procedure before a body, in its place.
+
+module _ {A : Type 0} (Tells : Procedure → A → (ℕ → Action) → Type 0) where
+  -- each by the procedure and what is told in its place; there may be more of them
+  abbrev pub Matches : List (ℕ → Action) → List Procedure → List A → Type 0
+  Matches rs [] [] = Unit {0}
+  Matches rs [] (l ∷ ls) = ⊥
+  Matches rs (q ∷ qs) [] = ⊥
+  Matches [] (q ∷ qs) (l ∷ ls) = ⊥
+  Matches (r ∷ rs) (q ∷ qs) (l ∷ ls) = Tells q l r × Matches rs qs ls
+
+  pub matches_at : (none : A) (rs : List (ℕ → Action)) (qs : List Procedure) (ls : List A) → Matches rs qs ls → (j : ℕ) (q : Procedure) (r : ℕ → Action) → slice_get qs j ≡ Some q → slice_get rs j ≡ Some r
+      → Tells q (unwrap_or (slice_get ls j) none) r
+  matches_at none rs [] ls m j q r e f = absurd (cc)
+  matches_at none rs (p ∷ qs) [] m j q r e f = absurd m
+  matches_at none [] (p ∷ qs) (l ∷ ls) m j q r e f = absurd m
+  matches_at none (t ∷ rs) (p ∷ qs) (l ∷ ls) m zero q r e f =
+      let same : p ≡ q = cc in
+      let one : t ≡ r = cc in
+      subst (λ u. Tells q l u) one (subst (λ u. Tells u l t) same m.0)
+  matches_at none (t ∷ rs) (p ∷ qs) (l ∷ ls) m (suc j) q r e f = matches_at none rs qs ls m.1 j q r e f
+
+  matches_grow : (rs : List (ℕ → Action)) (r : ℕ → Action) (qs : List Procedure) (ls : List A) → Matches rs qs ls → Matches (rs ++ r ∷ []) qs ls
+  matches_grow rs r [] [] m = tt
+  matches_grow rs r [] (l ∷ ls) m = absurd m
+  matches_grow rs r (q ∷ qs) [] m = absurd m
+  matches_grow [] r (q ∷ qs) (l ∷ ls) m = absurd m
+  matches_grow (t ∷ rs) r (q ∷ qs) (l ∷ ls) m = (m.0, matches_grow rs r qs ls m.1)
+
+  pub matches_all : (c : Context) (ps qs : List Procedure) (ls : List A) → Matches c.routines qs ls → Matches (routines_with c ps) qs ls
+  matches_all c [] qs ls m = m
+  matches_all c (p ∷ ps) qs ls m = matches_all (with_procedure c p) ps qs ls (matches_grow c.routines (λ j. block_meaning c j p.body) qs ls m)
+
+  pub matches_push : (plan : Layout) (rs : List (ℕ → Action)) (qs : List Procedure) (ls : List A) (r : ℕ → Action) (q : Procedure) (l : A)
+      → Matched plan rs qs → Matches rs qs ls → Tells q l r → Matches (rs ++ r ∷ []) (qs ++ q ∷ []) (ls ++ l ∷ [])
+  matches_push plan [] [] [] r q l m k h = (h, tt)
+  matches_push plan [] [] (x ∷ ls) r q l m k h = absurd k
+  matches_push plan [] (p ∷ qs) ls r q l m k h = absurd m
+  matches_push plan (t ∷ rs) [] ls r q l m k h = absurd m
+  matches_push plan (t ∷ rs) (p ∷ qs) [] r q l m k h = absurd k
+  matches_push plan (t ∷ rs) (p ∷ qs) (x ∷ ls) r q l m k h = (k.0, matches_push plan rs qs ls r q l m.1 k.1 h)
+
+-- What is accepted makes only the commands that are listed of it: one induction over statements.
 
 -- a procedure's body, on all arguments in range
 abbrev pub RoutineLists : ℕ → Procedure → List Command → (ℕ → Action) → Type 0

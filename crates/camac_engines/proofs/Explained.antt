@@ -13,8 +13,7 @@ use Rattle.camac_plan.specs.Reading.{TellsCase}
 use Rattle.camac_names.specs.Link.{FirstIsLinkFault}
 use Rattle.camac_check.specs.Refusals.{FirstIsRefusal}
 use Rattle.camac_lines.specs.declared.refusal.Refusal.TheVariants as refusal
-use Rattle.camac_explain.specs.Explanation.{IsPlanExplanation, explanation_of}
-use Rattle.camac_explain.specs.Finding.{refusal_of}
+use Rattle.camac_explain.specs.Explanation.{IsPlanExplanation, explanation_of, refusal_of}
 use Rattle.camac_explain.specs.Sentence.{sentence_of}
 use Rattle.camac_explain.specs.declared.finding.Finding.{Finding}
 use Rattle.camac_engines.specs.Accepted.{Accepted, accepted_read}

@@ -18,7 +18,7 @@ use Rattle.camac_rules.specs.Fault.{Fault, broken}
 use Rattle.camac_check.specs.Refusals.{FirstIsRefusal, fault_of, refusals}
 use Rattle.camac_lines.specs.Verdict.{verdict_text}
 use Rattle.camac_text.specs.Parser.{script_of}
-use Rattle.camac_explain.specs.Finding.{refusal_of}
+use Rattle.camac_explain.specs.Explanation.{refusal_of}
 use Rattle.camac_explain.specs.declared.finding.Finding.{Finding}
 use Rattle.camac_explain.specs.declared.finding.Finding.TheVariants as finding
 use Rattle.camac_engines.specs.Accepted.{accepted, accepted_checked, accepted_linked, accepted_read}

@@ -1,4 +1,4 @@
--- What `camac explain` tells of a plan and a script.
+-- What `camac explain` tells of a plan and a script, and of a code.
 use Rattle.std.specs.Prelude.{◌≡◌, ℕ, List, ◌++◌, Some, None, Result, Ok, Err}
 use Rattle.std.specs.Result.{result_ok}
 use Rattle.camac_lang.specs.Tree.{Script}
@@ -9,12 +9,12 @@ use Rattle.camac_branch.specs.Plan.{Layout}
 use Rattle.camac_plan.specs.declared.fault.PlanCase.{PlanCase}
 use Rattle.camac_plan.specs.declared.fault.PlanFault.TheVariants.{Broken}
 use Rattle.camac_plan.specs.Reading.{TellsCase}
-use Rattle.camac_explain.specs.Explanation.{IsPlanExplanation, explanation_of, text_explanation}
+use Rattle.camac_explain.specs.Explanation.{IsPlanExplanation, explanation_of, text_explanation, IsRuleText}
 use Rattle.camac_explain.specs.Sentence.{sentence_of}
 use Rattle.camac_explain.specs.declared.finding.Finding.{Finding}
 use Rattle.camac_explain.specs.declared.finding.Finding.TheVariants as finding
-use Rattle.camac_explain_text.specs.Sentence.{Said}
-use Rattle.camac_explain_text.specs.Text.{IsTextTold}
+use Rattle.camac_explain.specs.declared.rule.Rule.{Rule}
+use Rattle.camac_explain_text.specs.Sentence.{Said, IsTextTold}
 use Rattle.camac_engines.specs.Accepted.{Accepted, accepted}
 use Rattle.camac_engines.specs.Headings.{headed, headings_report}
 use Rattle.camac_engines.specs.Plan.{PlanFound}
@@ -69,3 +69,7 @@ abbrev pub IsRead : List ℕ → Result Script TextExplained → Type 0
 IsRead text (Ok script) = script_of text ≡ Ok script
 IsRead text (Err told) =
     (flaw : TextFault) × (script_of text ≡ Err flaw) × (told.finding ≡ finding.Text (rule_of flaw.case) flaw.spot) × Explained text told.finding told.lines.items
+
+-- of a code
+abbrev pub TellsRule : Rule → Outcome → List ℕ → Type 0
+TellsRule rule outcome text = (outcome ≡ Good) × IsRuleText rule text

@@ -1,6 +1,5 @@
 pub mod Sample
 pub mod Report
-pub mod Reading
 pub mod Plan
 pub mod Engine
 pub mod Headings
@@ -9,9 +8,7 @@ pub mod Found
 pub mod Refusals
 pub mod Standing
 pub mod Explain
-pub mod Rule
 pub mod Known
-pub mod Costs
 pub mod Tell
 pub mod Response
 pub mod Ask

@@ -14,7 +14,7 @@ use Rattle.camac_model.specs.Fine.{Bounds}
 use Rattle.camac_event.specs.declared.event.Version.{Version}
 use Rattle.camac_event.specs.Spelling.{Entry}
 use Rattle.camac_event.specs.Reading.{Flaw}
-use Rattle.camac_explain.specs.Finding.{refusal_of}
+use Rattle.camac_explain.specs.Explanation.{refusal_of}
 use Rattle.camac_lines.specs.Events.{events_text}
 use Rattle.camac_lines.specs.Plan.{plan_text, plan_with_commands}
 use Rattle.camac_lines.specs.Refusal.{refusal_text}

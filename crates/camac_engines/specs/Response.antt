@@ -2,12 +2,11 @@
 use Rattle.std.specs.Prelude.{◌≡◌, ℕ, Bool, List, Option, Some, None, Result, Ok, Err}
 use Rattle.std.specs.Io.KnownBytes.{Keeps}
 use Rattle.camac_checked.specs.Checked.{CheckedScript}
-use Rattle.camac_explain.specs.Finding.{refusal_of}
+use Rattle.camac_explain.specs.Explanation.{refusal_of}
 use Rattle.camac_response_times.specs.declared.setting.Misuse.{Misuse}
 use Rattle.camac_response_times.specs.declared.setting.Settings.{Settings}
 use Rattle.camac_response_times.specs.declared.source.Source.{Source}
-use Rattle.camac_response.specs.Checked.{AreTold, IsNoService}
-use Rattle.camac_response.specs.Kept.{AreKept}
+use Rattle.camac_response.specs.Checked.{AreTold, IsNoService, AreKept}
 use Rattle.camac_response.specs.Lines.{responses_text}
 use Rattle.camac_response.specs.Twice.{twice_of}
 use Rattle.camac_response.specs.Unkept.{unkept_of}

@@ -1,7 +1,7 @@
 // What is told of what the bounds of a script consist of.
 
 ghost use Rattle.std.specs.Prelude.{◌≡◌, ◌||◌};
-ghost use Rattle.camac_engines.specs.Costs.{costs_report_of};
+ghost use Rattle.camac_engines.specs.Headings.{costs_report_of};
 ghost use Rattle.camac_engines.specs.Engine.{IsWritten, is_write_fault};
 ghost use Rattle.camac_engines.specs.Report.{Reports};
 ghost use Rattle.camac_word.specs.Watched.{inner_of, has_failed};

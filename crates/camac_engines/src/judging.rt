@@ -4,10 +4,9 @@ ghost use Rattle.std.specs.Prelude.{◌≡◌, ◌||◌, IfOk, IfErr};
 ghost use Rattle.camac_names.specs.Link.{link_fault};
 ghost use Rattle.camac_rules.specs.Accept.{accept};
 ghost use Rattle.camac_engines.specs.Accepted.{Accepts, accepted, accepted_linked, accepted_checked};
-ghost use Rattle.camac_engines.specs.Engine.{Judges};
+ghost use Rattle.camac_engines.specs.Engine.{Judges, is_read_fault};
 ghost use Rattle.camac_engines.specs.Found.{ReadsJudged};
 ghost use Rattle.camac_engines.specs.Plan.{plan_failed};
-ghost use Rattle.camac_engines.specs.Reading.{is_read_fault};
 ghost use Rattle.camac_engines.specs.Report.{report, report_linked, report_accepted};
 ghost use Rattle.camac_word.specs.Watched.{inner_of, has_failed};
 

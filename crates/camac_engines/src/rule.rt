@@ -2,7 +2,7 @@
 
 ghost use Rattle.std.specs.Prelude.{◌≡◌, ◌||◌};
 ghost use Rattle.camac_engines.specs.Engine.{IsWritten, is_write_fault};
-ghost use Rattle.camac_engines.specs.Rule.{TellsRule};
+ghost use Rattle.camac_engines.specs.Explain.{TellsRule};
 ghost use Rattle.camac_word.specs.Watched.{inner_of, has_failed};
 
 use crate::fault::ToolFault;

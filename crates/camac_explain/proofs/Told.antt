@@ -1,8 +1,8 @@
--- The parts of an explanation, put one after the other.
-use Rattle.std.proofs.Common.{◌≡◌, ℕ, List, ◌++◌, Option, ap, ◌∙◌}
+-- The parts of an explanation, put one after the other; and an entry that is found.
+use Rattle.std.proofs.Common.{◌≡◌, ℕ, List, ◌++◌, Option, ap, ◌∙◌, option_map, map, slice_get}
 use Rattle.camac_explain.specs.Advice.{Told, told}
-use Rattle.camac_explain.specs.Explanation.{closing, sentence_line}
-use Rattle.camac_explain.specs.Rule.{Grows}
+use Rattle.camac_explain.specs.Explanation.{closing, sentence_line, Grows}
+use Rattle.std.proofs.lemmas.Option.{slice_get-map}
 
 pub same_closing : (hint hint' : Option (List ℕ)) (why fix code code' : List ℕ) (t : Told) → hint ≡ hint' → why ≡ t.why → fix ≡ t.fix → code ≡ code'
     → closing hint (told why fix) code ≡ closing hint' t code'
@@ -22,3 +22,8 @@ pub rule_parts : (l1 l2 l3 l4 l5 a b m d : List ℕ) → l1 ≡ a → l2 ≡ l1 
     → (example : List ℕ) × (l5 ≡ (((a ++ b) ++ m) ++ example) ++ d)
 rule_parts l1 l2 l3 l4 l5 a b m d e1 e2 e3 (example, e4) e5 =
     (example, e5 ∙ ap (λ l. l ++ d) (e4 ∙ ap (λ l. l ++ example) (e3 ∙ ap (λ l. l ++ m) (e2 ∙ ap (λ l. l ++ b) e1))))
+
+-- An entry that is found, as contracts see it.
+
+pub found : {A B : Type 0} (f : A → B) (xs : List A) (i : ℕ) → slice_get (map f xs) i ≡ option_map f (slice_get xs i)
+found f xs i = slice_get-map f xs i

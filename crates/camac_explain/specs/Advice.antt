@@ -1,5 +1,8 @@
--- What is told of each rule: why it is there, and what to do where it is broken. The texts stand with its code in src/pages.rt.
-use Rattle.std.specs.Prelude.{ℕ, ◌-◌, ◌&&◌, ◌||◌, Bool, false, List, [], ◌∷◌, map, nat_eq, nat_lt, nat_le, if◌then◌else◌}
+-- What is told of each rule, and the code of each warning.
+use Rattle.std.specs.Prelude.{ℕ, List, codes, ◌-◌, ◌&&◌, ◌||◌, Bool, false, [], ◌∷◌, map, nat_eq, nat_lt, nat_le, if◌then◌else◌}
+use Rattle.camac_explain.specs.declared.rule.Warning.{Warning}
+use Rattle.camac_explain.specs.declared.texts.TheConstants as text
+use Rattle.camac_explain.specs.declared.rule.Warning.TheVariants.{NeverReached, ScanWithoutCycle, NoNumber, KeepNotNeeded, NoService, LongerFirst, DearLoop, KeepTooWide, WordNotUsed, OneNumber, UsedBeforeSet, OneAddressTwice, FlagBeforeCycle, NameNotUsed, LeadingZero, AlwaysTrueOrFalse, GuardLeavesOut}
 use Rattle.std.specs.Str.{bytes_eq}
 use Rattle.camac_rules.specs.declared.rule.CheckRule.{CheckRule}
 use Rattle.camac_rules.specs.declared.rule.CheckRule.TheVariants as check
@@ -11,10 +14,32 @@ use Rattle.camac_rules.specs.declared.case.Case.TheVariants.{Direction, Operatio
 use Rattle.camac_rules.specs.declared.case.Numbers.{Numbers}
 use Rattle.camac_rules.specs.declared.case.Operator.TheVariants.{Sub}
 use Rattle.camac_lines.specs.Codes.{answer_code, check_code, event_code, link_code, plan_code, text_code}
-use Rattle.camac_explain.specs.Warning.{warning_code}
 use Rattle.camac_explain.specs.declared.rule.Rule.{Rule}
 use Rattle.camac_explain.specs.declared.rule.Rule.TheVariants as of
 use Rattle.camac_explain.specs.declared.pages.TheConstants.{ANY_RIGHT, ANY_SIDE, ANY_VALUE, ANY_WORD, DIFFERENCE, FEWER_CYCLES, FEWER_EACH, FEWER_STEPS, FEWER_WORDS, MORE_CYCLES, MORE_STEPS, MORE_TURNS, MORE_WORDS, MOST_TURNS, MOVES_NONE, OF_ANSWERS, OF_CHECKER, OF_EVENTS, OF_LINKS, OF_PLANS, OF_TEXTS, OF_WARNINGS, READS, RESULT, TWO_LOOPS, VALUE, WORD, WRITES}
+
+-- The code of each warning: its name and its meaning.
+
+abbrev pub warning_code : Warning → List ℕ × List ℕ
+warning_code NeverReached = (codes "W1", text.NEVER_REACHED.now)
+warning_code ScanWithoutCycle = (codes "W2", text.SCAN_WITHOUT_CYCLE.now)
+warning_code NoNumber = (codes "W3", text.NO_NUMBER.now)
+warning_code KeepNotNeeded = (codes "W4", text.KEEP_NOT_NEEDED.now)
+warning_code NoService = (codes "W5", text.NO_SERVICE.now)
+warning_code LongerFirst = (codes "W6", text.LONGER_FIRST.now)
+warning_code DearLoop = (codes "W7", text.DEAR_LOOP.now)
+warning_code KeepTooWide = (codes "W8", text.KEEP_TOO_WIDE.now)
+warning_code WordNotUsed = (codes "W9", text.WORD_NOT_USED.now)
+warning_code OneNumber = (codes "W10", text.ONE_NUMBER.now)
+warning_code UsedBeforeSet = (codes "W11", text.USED_BEFORE_SET.now)
+warning_code OneAddressTwice = (codes "W12", text.ONE_ADDRESS_TWICE.now)
+warning_code FlagBeforeCycle = (codes "W13", text.FLAG_BEFORE_CYCLE.now)
+warning_code NameNotUsed = (codes "W14", text.NAME_NOT_USED.now)
+warning_code LeadingZero = (codes "W15", text.LEADING_ZERO.now)
+warning_code AlwaysTrueOrFalse = (codes "W16", text.ALWAYS_TRUE_OR_FALSE.now)
+warning_code GuardLeavesOut = (codes "W17", text.GUARD_LEAVES_OUT.now)
+
+-- What is told of each rule: why it is there, and what to do where it is broken. The texts stand with its code in src/pages.rt.
 
 pub record Told : Type 0 where
   pub why : List ℕ
@@ -69,13 +94,9 @@ is_open n = nat_lt n.low n.high
 abbrev pub is_forgotten : Numbers → Bool
 is_forgotten n = is_open n && nat_eq n.high greatest
 
--- the greatest numbers have a sum
-abbrev pub has_room : (left right : Numbers) → Bool
-has_room left right = nat_le left.high (greatest - right.high)
-
--- a difference of two unknown numbers, whose form of its own fits
+-- a difference of two unknown numbers whose greatest have a sum: its form of its own fits
 abbrev pub is_difference : Case → Bool
-is_difference (Operation Sub left right) = is_open left && is_open right && has_room left right
+is_difference (Operation Sub left right) = is_open left && is_open right && nat_le left.high (greatest - right.high)
 is_difference case = false
 
 abbrev pub is_right_forgotten : Case → Bool

@@ -1,15 +1,15 @@
--- The sentences on the rules of linking and of the checker: what the rule knew, with numbers in decimal and names in quotes.
-use Rattle.std.specs.Prelude.{ℕ, Bool, true, false, List, [], ◌∷◌, ◌++◌, Option, Some, None, codes, decimal, nat_eq, if◌then◌else◌}
+-- The sentences on the rules of linking and of the checker, and the names in them.
+use Rattle.std.specs.Prelude.{ℕ, Bool, false, ◌&&◌, ◌==◌, List, Option, Some, None, option_map, option_and_then, slice_get, find, codes, true, [], ◌∷◌, ◌++◌, decimal, nat_eq, unwrap_or, if◌then◌else◌}
+use Rattle.camac_lang.specs.Tree.{Text, Lam, Parameter, Procedure, Service, Script}
+use Rattle.camac_rules.specs.declared.case.Body.{Body}
+use Rattle.camac_rules.specs.declared.case.Body.TheVariants as body
 use Rattle.camac_func.specs.declared.code.FunctionClass.{FunctionClass}
 use Rattle.camac_func.specs.declared.code.FunctionClass.TheVariants as class
-use Rattle.camac_lang.specs.Tree.{Text, Script}
 use Rattle.camac_names.specs.declared.fault.LinkCase.{LinkCase}
 use Rattle.camac_names.specs.declared.fault.LinkCase.TheVariants as link
 use Rattle.camac_names.specs.declared.fault.LinkRule.{LinkRule}
 use Rattle.camac_names.specs.declared.fault.LinkRule.TheVariants.{LamNotInstalled}
 use Rattle.camac_range.specs.Number.{greatest}
-use Rattle.camac_rules.specs.declared.case.Body.{Body}
-use Rattle.camac_rules.specs.declared.case.Body.TheVariants.{Procedure, Service}
 use Rattle.camac_rules.specs.declared.case.Case.{Case}
 use Rattle.camac_rules.specs.declared.case.Case.TheVariants as case
 use Rattle.camac_rules.specs.declared.case.Operator.{Operator}
@@ -22,16 +22,62 @@ use Rattle.camac_explain.specs.declared.finding.Finding.{Finding}
 use Rattle.camac_explain.specs.declared.finding.Finding.TheVariants as finding
 use Rattle.camac_explain.specs.declared.texts.TheConstants as text
 use Rattle.camac_sentence.specs.Filled.{cost, filled, range, with}
-use Rattle.camac_explain.specs.Names.{lam_at, parameter_of, register_of, served_at, shown, variable_of}
+
+-- The names that a sentence tells: each is that of the number or the place that its rule knew.
+
+-- a name that is not there is told as `?`
+abbrev pub shown : Option Text → Text
+shown (Some name) = name
+shown None = codes "?"
+
+abbrev pub parameter_in : ℕ → Procedure → Option Text
+parameter_in number p = option_map (λ (a : Parameter). a.name) (slice_get p.parameters number)
+
+abbrev pub parameter_of : Script → (procedure number : ℕ) → Option Text
+parameter_of s procedure number = option_and_then (parameter_in number) (slice_get s.procedures procedure)
+
+abbrev pub variable_of : Script → Body → ℕ → Option Text
+variable_of s (body.Procedure procedure) number = parameter_of s procedure number
+variable_of s (body.Service lam) number = slice_get s.variables number
+
+abbrev pub register_in : ℕ → Service → Option Text
+register_in number v = slice_get v.registers number
+
+-- the register of this number in the first service of a LAM
+abbrev pub register_in_service : (lam number : ℕ) → List Service → Option Text
+register_in_service lam number services = option_and_then (register_in number) (find (λ (v : Service). v.lam == lam) services)
+
+abbrev pub register_of : Script → Body → ℕ → Option Text
+register_of s (body.Procedure procedure) number = option_and_then (λ (p : Procedure). slice_get p.registers number) (slice_get s.procedures procedure)
+register_of s (body.Service lam) number = register_in_service lam number s.services
+
+abbrev pub is_at : (crate_no station : ℕ) → Lam → Bool
+is_at crate_no station l = (l.crate_no == crate_no) && (l.station == station)
+
+-- the first LAM at a station
+abbrev pub first_lam : (crate_no station : ℕ) → List Lam → Option Text
+first_lam crate_no station lams = option_map (λ (l : Lam). l.name) (find (is_at crate_no station) lams)
+
+abbrev pub is_served_at : (crate_no station : ℕ) → List Lam → Service → Bool
+is_served_at crate_no station lams v = unwrap_or (option_map (is_at crate_no station) (slice_get lams v.lam)) false
+
+abbrev pub name_at : List Lam → ℕ → Option Text
+name_at lams place = option_map (λ (l : Lam). l.name) (slice_get lams place)
+
+-- the LAM of the first service at a station
+abbrev pub first_served : (crate_no station : ℕ) → List Lam → List Service → Option Text
+first_served crate_no station lams services = option_and_then (λ (v : Service). name_at lams v.lam) (find (is_served_at crate_no station lams) services)
+
+-- The sentences on the rules of linking and of the checker: what the rule knew, with numbers in decimal and names in quotes.
 
 abbrev pub name : Option Text → List ℕ
 name found = quoted (shown found)
 
 -- what a function or a statement of this class does
 abbrev pub does : FunctionClass → List ℕ
-does class.Read = codes "reads"
-does class.Write = codes "writes"
-does class.Control = codes "moves no data"
+does class.Read = text.READS.now
+does class.Write = text.WRITES.now
+does class.Control = text.MOVES_NO_DATA.now
 
 abbrev pub sign_of : Operator → List ℕ
 sign_of Add = codes "+"
@@ -43,8 +89,8 @@ kept_text KeepFailsAtEntry = text.BEFORE_LOOP.now
 kept_text _ = text.AFTER_TURN.now
 
 abbrev pub who : Body → List ℕ
-who (Procedure number) = codes "procedure"
-who (Service lam) = codes "service"
+who (body.Procedure number) = codes "procedure"
+who (body.Service lam) = codes "service"
 
 abbrev pub costs_text : CheckRule → List ℕ
 costs_text TooManyWords = text.WORDS.now
@@ -57,7 +103,7 @@ limit_text allowed = with (if nat_eq allowed greatest then text.ANY_HEADING.now 
 
 -- the steps of a service, which no number of its heading bounds
 abbrev pub is_service_steps : CheckRule → Body → Bool
-is_service_steps TooManySteps (Service lam) = true
+is_service_steps TooManySteps (body.Service lam) = true
 is_service_steps _ _ = false
 
 abbrev pub budget_text : CheckRule → Body → (needed allowed : ℕ) → List ℕ
@@ -71,8 +117,8 @@ says sentence parts = Some (filled sentence parts)
 -- there is none of a script that no text gives
 abbrev pub link_sentence_of : Script → LinkRule → LinkCase → Option (List ℕ)
 link_sentence_of s rule link.Malformed = None
-link_sentence_of s LamNotInstalled (link.Place c n) = says text.LAM_WITHOUT_MODULE.now (name (lam_at s c n) ∷ decimal c ∷ decimal n ∷ [])
-link_sentence_of s rule (link.Place c n) = says text.LAM_WITHOUT_BIT.now (name (served_at s c n) ∷ decimal c ∷ decimal n ∷ [])
+link_sentence_of s LamNotInstalled (link.Place c n) = says text.LAM_WITHOUT_MODULE.now (name (first_lam c n s.lams) ∷ decimal c ∷ decimal n ∷ [])
+link_sentence_of s rule (link.Place c n) = says text.LAM_WITHOUT_BIT.now (name (first_served c n s.lams s.services) ∷ decimal c ∷ decimal n ∷ [])
 link_sentence_of s rule (link.Served c n spot) = says text.SERVED.now (decimal c ∷ decimal n ∷ decimal spot.line ∷ [])
 link_sentence_of s rule (link.Words allowed buffer) = says text.ABOVE_BUFFER.now (decimal allowed ∷ decimal buffer ∷ [])
 
@@ -106,7 +152,6 @@ check_sentence_of s rule (case.Argument procedure argument found wanted) =
 
 -- of a rule of linking or of the checker
 abbrev pub sentence_of : Script → Finding → Option (List ℕ)
-sentence_of s (finding.Plan rule) = None
-sentence_of s (finding.Text rule spot) = None
 sentence_of s (finding.Link rule spot case) = link_sentence_of s rule case
 sentence_of s (finding.Check rule spot case) = check_sentence_of s rule case
+sentence_of s _ = None

@@ -5,6 +5,7 @@ use Rattle.camac_lang.specs.declared.spot.Spot.{Spot}
 use Rattle.camac_tokens.specs.Scanning.{is_no_line_feed}
 use Rattle.camac_explain.specs.declared.finding.Finding.{Finding}
 use Rattle.camac_explain.specs.declared.finding.Finding.TheVariants.{Plan, Text, Link, Check}
+use Rattle.camac_explain.specs.declared.texts.TheConstants.{END}
 
 -- the bytes before the first line feed, and those after it
 abbrev pub line_length : List ℕ → ℕ
@@ -48,7 +49,7 @@ shown_line line column =
 
 -- an empty line is that after the last one
 abbrev pub shown_or_end : List ℕ → ℕ → List ℕ
-shown_or_end [] column = codes "(end of the script)"
+shown_or_end [] column = END.now
 shown_or_end (b ∷ bs) column = shown_line (b ∷ bs) column
 
 -- the number in five columns, and a bar

@@ -1,7 +1,7 @@
 // Why each rule is there, and what to do where it is broken.
 
 ghost use Rattle.std.specs.Prelude.{◌≡◌, map};
-ghost use Rattle.camac_explain.specs.Advice.{check_fix, check_page, check_told, has_room, is_any, is_difference, is_forgotten, is_right_forgotten, is_side_forgotten, is_within, rule_told};
+ghost use Rattle.camac_explain.specs.Advice.{check_fix, check_page, check_told, is_any, is_difference, is_forgotten, is_right_forgotten, is_side_forgotten, is_within, rule_told};
 
 use crate::pages::{self, Fix, Row};
 use crate::rule::Rule;
@@ -151,16 +151,11 @@ fn is_difference(case: Case) -> bool
             operator: Operator::Sub,
             left,
             right,
-        } => left.low < left.high && right.low < right.high && has_room(left, right),
+        } => {
+            left.low < left.high && right.low < right.high && left.high <= u32::MAX - right.high
+        }
         _ => false,
     }
-}
-
-// Whether the greatest numbers have a sum.
-fn has_room(left: Numbers, right: Numbers) -> bool
-    ensures { result ≡ has_room left right }
-{
-    left.high <= u32::MAX - right.high
 }
 
 // E5: of a value of which nothing is known, too.

@@ -9,6 +9,7 @@ use crate::advice::{Advice, check_advice, rule_advice};
 use crate::finding::Finding;
 use crate::rule::Rule;
 use crate::source::{push_shown, push_source};
+use crate::texts::MORE;
 use camac_explain_plan::{plan_hint, plan_sentence};
 use camac_lines::Refusal;
 use camac_plan::{PlanCase, PlanRule};
@@ -126,7 +127,7 @@ fn push_hint(lines: &mut Vec<u8>, hint: &[u8], code: &str) -> Result<(), AllocEr
 {
     lines.extend_from_slice(b"Fix: ")?;
     push_told(lines, hint)?;
-    push_line(lines, "More: docs/REFUSALS.md, ", code)
+    push_line(lines, MORE, code)
 }
 
 fn push_advice(lines: &mut Vec<u8>, advice: Advice, code: &str) -> Result<(), AllocError>
@@ -134,10 +135,11 @@ fn push_advice(lines: &mut Vec<u8>, advice: Advice, code: &str) -> Result<(), Al
 {
     push_line(lines, "Why: ", advice.why)?;
     push_line(lines, "Fix: ", advice.fix)?;
-    push_line(lines, "More: docs/REFUSALS.md, ", code)
+    push_line(lines, MORE, code)
 }
 
-fn push_line(lines: &mut Vec<u8>, label: &str, text: &str) -> Result<(), AllocError>
+/// Puts a line at the end, which begins with a label.
+pub fn push_line(lines: &mut Vec<u8>, label: &str, text: &str) -> Result<(), AllocError>
     ensures { OnOk result (lines.new.items ≡ lines.old.items ++ line_of label.now text.now) }
 {
     lines.extend_from_slice(label.as_bytes())?;

@@ -1,7 +1,7 @@
 // What is found wrong with an input.
 
 ghost use Rattle.std.specs.Prelude.{◌≡◌};
-ghost use Rattle.camac_explain.specs.Finding.{refusal_of};
+ghost use Rattle.camac_explain.specs.Explanation.{refusal_of};
 
 use camac_lang::Spot;
 use camac_lines::Refusal;

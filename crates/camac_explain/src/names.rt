@@ -2,7 +2,7 @@
 
 ghost use Rattle.std.specs.Prelude.{◌≡◌, Some, map, option_copied};
 ghost use Rattle.camac_lang.specs.View.{lam_of, procedure_of, service_of};
-ghost use Rattle.camac_explain.specs.Names.{is_at, is_served_at, lam_at, first_lam, first_served, name_at, parameter_in, parameter_of, register_in, register_in_service, register_of, served_at, shown, variable_of};
+ghost use Rattle.camac_explain.specs.Sentence.{is_at, is_served_at, first_lam, first_served, name_at, parameter_in, parameter_of, register_in, register_in_service, register_of, shown, variable_of};
 
 use camac_lang::{Lam, Name, Procedure, Script, Service};
 use camac_lines::Quote;
@@ -19,7 +19,7 @@ pub fn variable(script: &Script, body: Body, number: usize) -> Quote<'_>
 }
 
 /// The parameter of this number of a procedure.
-#[tactic(auto, using(crate::proofs::Places::found))]
+#[tactic(auto, using(crate::proofs::Told::found))]
 pub fn parameter(script: &Script, procedure: usize, number: usize) -> Quote<'_>
     ensures { result.0.now ≡ shown (parameter_of script.now procedure number) }
 {
@@ -30,7 +30,7 @@ pub fn parameter(script: &Script, procedure: usize, number: usize) -> Quote<'_>
 }
 
 /// The register of this number in a body.
-#[tactic(auto, using(crate::proofs::Places::found))]
+#[tactic(auto, using(crate::proofs::Told::found))]
 pub fn register(script: &Script, body: Body, number: usize) -> Quote<'_>
     ensures { result.0.now ≡ shown (register_of script.now body number) }
 {
@@ -45,19 +45,19 @@ pub fn register(script: &Script, body: Body, number: usize) -> Quote<'_>
 
 /// The first LAM at a station.
 pub fn lam_at(script: &Script, crate_no: u32, station: u32) -> Quote<'_>
-    ensures { result.0.now ≡ shown (lam_at script.now crate_no station) }
+    ensures { result.0.now ≡ shown (first_lam crate_no station script.now.lams) }
 {
     first_lam(script.lams(), crate_no, station)
 }
 
 /// The LAM of the first service at a station.
 pub fn served_at(script: &Script, crate_no: u32, station: u32) -> Quote<'_>
-    ensures { result.0.now ≡ shown (served_at script.now crate_no station) }
+    ensures { result.0.now ≡ shown (first_served crate_no station script.now.lams script.now.services) }
 {
     first_served(script.lams(), script.services(), crate_no, station)
 }
 
-#[tactic(auto, using(crate::proofs::Places::found))]
+#[tactic(auto, using(crate::proofs::Told::found))]
 fn parameter_in(procedure: &Procedure, number: usize) -> Quote<'_>
     ensures { result.0.now ≡ shown (parameter_in number (procedure_of procedure.now)) }
 {
@@ -107,7 +107,7 @@ fn first_served<'a>(lams: &'a [Lam], services: &[Service], crate_no: u32, statio
     quoted(None)
 }
 
-#[tactic(auto, using(crate::proofs::Places::found))]
+#[tactic(auto, using(crate::proofs::Told::found))]
 fn is_served_at(lams: &[Lam], service: &Service, crate_no: u32, station: u32) -> bool
     ensures { result ≡ is_served_at crate_no station (map lam_of lams.now) (service_of service.now) }
 {
@@ -117,7 +117,7 @@ fn is_served_at(lams: &[Lam], service: &Service, crate_no: u32, station: u32) ->
     }
 }
 
-#[tactic(auto, using(crate::proofs::Places::found))]
+#[tactic(auto, using(crate::proofs::Told::found))]
 fn name_at(lams: &[Lam], place: usize) -> Quote<'_>
     ensures { result.0.now ≡ shown (name_at (map lam_of lams.now) place) }
 {

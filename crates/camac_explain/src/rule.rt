@@ -3,14 +3,15 @@
 ghost use Rattle.std.specs.Prelude.{◌≡◌, ◌++◌, IfOk, OnOk, codes, map};
 ghost use Rattle.std.specs.List.{flat_map};
 ghost use Rattle.std.specs.Str.{str_eq_ignore_ascii_case};
-ghost use Rattle.camac_explain.specs.Explanation.{line_of};
-ghost use Rattle.camac_explain.specs.Rule.{Grows, IsRuleOf, IsRuleText, Names, fix_line, fixes_of, rule_code};
-ghost use Rattle.camac_explain.specs.Warning.{warning_code};
+ghost use Rattle.camac_explain.specs.Explanation.{line_of, Grows, IsRuleOf, IsRuleText, Names, fix_line, fixes_of, rule_code};
+ghost use Rattle.camac_explain.specs.Advice.{warning_code};
 ghost use Rattle.camac_lines.specs.Codes.{answer_code, check_code, event_code, link_code, plan_code, text_code};
 
 use crate::advice::{check_page, rule_advice};
 use crate::example::{check_example, link_example, plan_example, text_example};
+use crate::explanation::push_line;
 use crate::pages::Fix;
+use crate::texts;
 use camac_answer::AnswerRule;
 use camac_event::{EventFlaw, EventRule};
 use camac_lines::{Code, Refusal};
@@ -107,23 +108,23 @@ fn warning_code(warning: Warning) -> Code
     ensures meaning { result.meaning.now ≡ (warning_code warning).1 }
 {
     let (name, meaning) = match warning {
-        Warning::NeverReached => ("W1", "never reached"),
-        Warning::ScanWithoutCycle => ("W2", "a scan without a cycle"),
-        Warning::NoNumber => ("W3", "no number for look-at-mes"),
-        Warning::KeepNotNeeded => ("W4", "a kept bound that is not needed"),
-        Warning::NoService => ("W5", "no service"),
-        Warning::LongerFirst => ("W6", "a longer service goes first"),
-        Warning::DearLoop => ("W7", "a loop that costs less turn by turn"),
-        Warning::KeepTooWide => ("W8", "a kept bound that is wider than it has to be"),
-        Warning::WordNotUsed => ("W9", "a word that is read and never used"),
-        Warning::OneNumber => ("W10", "a word that is always one number"),
-        Warning::UsedBeforeSet => ("W11", "used before it is set"),
-        Warning::OneAddressTwice => ("W12", "two registers of one address"),
-        Warning::FlagBeforeCycle => ("W13", "a flag before any cycle"),
-        Warning::NameNotUsed => ("W14", "a name that is never used"),
-        Warning::LeadingZero => ("W15", "a 0 before a number"),
-        Warning::AlwaysTrueOrFalse => ("W16", "a condition that is always true or always false"),
-        Warning::GuardLeavesOut => ("W17", "a guard that leaves something out"),
+        Warning::NeverReached => ("W1", texts::NEVER_REACHED),
+        Warning::ScanWithoutCycle => ("W2", texts::SCAN_WITHOUT_CYCLE),
+        Warning::NoNumber => ("W3", texts::NO_NUMBER),
+        Warning::KeepNotNeeded => ("W4", texts::KEEP_NOT_NEEDED),
+        Warning::NoService => ("W5", texts::NO_SERVICE),
+        Warning::LongerFirst => ("W6", texts::LONGER_FIRST),
+        Warning::DearLoop => ("W7", texts::DEAR_LOOP),
+        Warning::KeepTooWide => ("W8", texts::KEEP_TOO_WIDE),
+        Warning::WordNotUsed => ("W9", texts::WORD_NOT_USED),
+        Warning::OneNumber => ("W10", texts::ONE_NUMBER),
+        Warning::UsedBeforeSet => ("W11", texts::USED_BEFORE_SET),
+        Warning::OneAddressTwice => ("W12", texts::ONE_ADDRESS_TWICE),
+        Warning::FlagBeforeCycle => ("W13", texts::FLAG_BEFORE_CYCLE),
+        Warning::NameNotUsed => ("W14", texts::NAME_NOT_USED),
+        Warning::LeadingZero => ("W15", texts::LEADING_ZERO),
+        Warning::AlwaysTrueOrFalse => ("W16", texts::ALWAYS_TRUE_OR_FALSE),
+        Warning::GuardLeavesOut => ("W17", texts::GUARD_LEAVES_OUT),
     };
     Code { name, meaning }
 }
@@ -265,22 +266,19 @@ pub fn explain_rule(alloc: Global, rule: Rule) -> Result<Vec<u8>, AllocError>
 {
     let code = rule.code();
     let mut lines = Vec::new(alloc);
-    push_line(&mut lines, code.name, ": ", code.meaning)?;
-    push_line(&mut lines, "Why", ": ", rule_advice(rule).why)?;
+    push_labelled(&mut lines, code.name, code.meaning)?;
+    push_line(&mut lines, "Why: ", rule_advice(rule).why)?;
     push_fixes(&mut lines, rule)?;
     push_example(&mut lines, rule)?;
-    push_line(&mut lines, "More", ": docs/REFUSALS.md, ", code.name)?;
+    push_line(&mut lines, texts::MORE, code.name)?;
     Ok(lines)
 }
 
-fn push_line(lines: &mut Vec<u8>, label: &str, after: &str, text: &str) -> Result<(), AllocError>
-    ensures { OnOk result (lines.new.items ≡ lines.old.items ++ line_of (label.now ++ after.now) text.now) }
+fn push_labelled(lines: &mut Vec<u8>, label: &str, text: &str) -> Result<(), AllocError>
+    ensures { OnOk result (lines.new.items ≡ lines.old.items ++ line_of (label.now ++ codes ": ") text.now) }
 {
     lines.extend_from_slice(label.as_bytes())?;
-    lines.extend_from_slice(after.as_bytes())?;
-    lines.extend_from_slice(text.as_bytes())?;
-    lines.push(b'\n')?;
-    Ok(())
+    push_line(lines, ": ", text)
 }
 
 fn push_fixes(lines: &mut Vec<u8>, rule: Rule) -> Result<(), AllocError>
@@ -288,7 +286,7 @@ fn push_fixes(lines: &mut Vec<u8>, rule: Rule) -> Result<(), AllocError>
 {
     match rule {
         Rule::Check(rule) => push_each(lines, check_page(rule).1),
-        _ => push_line(lines, "Fix", ": ", rule_advice(rule).fix),
+        _ => push_line(lines, "Fix: ", rule_advice(rule).fix),
     }
 }
 
@@ -298,7 +296,7 @@ fn push_each(lines: &mut Vec<u8>, fixes: &[Fix]) -> Result<(), AllocError>
 {
     'fixes: for (purpose, fix) in fixes {
         lines.extend_from_slice(b"Fix")?;
-        push_line(lines, purpose, ": ", fix)?;
+        push_labelled(lines, purpose, fix)?;
     }
     Ok(())
 }

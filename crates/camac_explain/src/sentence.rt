@@ -235,9 +235,9 @@ fn does(class: FunctionClass) -> &'static str
     ensures { result.now ≡ does class }
 {
     match class {
-        FunctionClass::Read => "reads",
-        FunctionClass::Write => "writes",
-        FunctionClass::Control => "moves no data",
+        FunctionClass::Read => texts::READS,
+        FunctionClass::Write => texts::WRITES,
+        FunctionClass::Control => texts::MOVES_NO_DATA,
     }
 }
 

@@ -5,6 +5,7 @@ ghost use Rattle.std.specs.List.{flat_map};
 ghost use Rattle.camac_explain.specs.Source.{shown_byte, line_length, first_line, after_line, from_line, column_of, begin_of, dots, gap, blank_below, mark_line, marked_text, shown_line, shown_or_end, number_column, source_text, source_of};
 
 use crate::finding::Finding;
+use crate::texts;
 use camac_lang::Spot;
 use itoa::Buffer;
 use std::alloc::AllocError;
@@ -57,7 +58,7 @@ fn push_shown_line(lines: &mut Vec<u8>, line: &[u8], column: usize) -> Result<()
     ensures { OnOk result (lines.new.items ≡ lines.old.items ++ shown_or_end line.now column) }
 {
     if line.is_empty() {
-        lines.extend_from_slice(b"(end of the script)")?;
+        lines.extend_from_slice(texts::END.as_bytes())?;
         Ok(())
     } else {
         push_part(lines, line, column)

@@ -1,10 +1,9 @@
 -- What holds of the lines that are told beside a rule.
-use Rattle.std.proofs.Common.{◌≡◌, ◌⊎◌, inl, inr, ℕ, Bool, true, false, List, [], ◌∷◌, Option, Some, None, refl, ap}
-use Rattle.std.specs.Prelude.{◌&&◌, ◌||◌, nat_lt, unwrap_or, if◌then◌else◌}
+use Rattle.std.proofs.Common.{◌≡◌, ◌⊎◌, inl, inr, ℕ, Bool, true, false, List, [], ◌∷◌, Option, Some, None, refl, ap, ◌≤◌, arith, length, ◌++◌, append_assoc, ◌∙◌}
+use Rattle.std.specs.Prelude.{◌&&◌, ◌||◌, nat_lt, unwrap_or, if◌then◌else◌, codes, decimal}
+use Rattle.std.specs.List.{concat}
 use Rattle.camac_tokens.specs.declared.token.Token.{Token}
-use Rattle.camac_explain_case.specs.Address.{last_set, sets}
-use Rattle.camac_explain_case.specs.Case.{case_lines}
-use Rattle.camac_explain_case.specs.Told.{SetsAreBefore, SetsLast, WaitsAreOfThePlan}
+use Rattle.camac_explain_case.specs.Case.{last_set, sets, case_lines, places_text, SetsAreBefore, SetsLast, WaitsAreOfThePlan}
 use Rattle.camac_explain_case.specs.declared.case.TheConstants.{WAITS}
 
 none_of_two : (a b : Bool) → a ≡ false → b ≡ false → (a || b) ≡ false
@@ -56,3 +55,11 @@ of_none left register line ts (inr s) = s
 
 pub sets_are_before : SetsAreBefore
 sets_are_before left register ts line h = of_none left register line ts (kept left register None line ts h)
+
+pub pushed : (lines l1 l2 l3 head places : List ℕ) (f : ℕ) → 1 ≤ length places → head ≡ concat (codes "Plan: F" ∷ decimal f ∷ codes " is at" ∷ [])
+    → l1 ≡ lines ++ head → l2 ≡ l1 ++ places → l3 ≡ l2 ++ codes ".\n" → l3 ≡ lines ++ places_text f places
+pushed lines l1 l2 l3 head [] f some is e1 e2 e3 = absurd (omega (arith, some))
+pushed lines l1 l2 l3 head (b ∷ bs) f some is e1 e2 e3 =
+    let begin = concat (codes "Plan: F" ∷ decimal f ∷ codes " is at" ∷ []) in
+    e3 ∙ ap (λ l. l ++ codes ".\n") (e2 ∙ ap (λ l. l ++ (b ∷ bs)) (e1 ∙ ap (λ h. lines ++ h) is) ∙ append_assoc lines begin (b ∷ bs))
+    ∙ append_assoc lines (begin ++ (b ∷ bs)) (codes ".\n")

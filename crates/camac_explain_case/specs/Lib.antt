@@ -1,3 +1,1 @@
-pub mod Address
 pub mod Case
-pub mod Told

@@ -1,7 +1,7 @@
 // The `cdreg` of a transfer's register, by the tokens of a text.
 
 ghost use Rattle.std.specs.Prelude.{◌≡◌, None, option_map};
-ghost use Rattle.camac_explain_case.specs.Address.{has_register, is_name, last_set, name_in, register_at, register_behind, sets};
+ghost use Rattle.camac_explain_case.specs.Case.{has_register, is_name, last_set, name_in, register_at, register_behind, sets};
 
 use camac_tokens::{Keyword, Token, TokenKind, are_same};
 

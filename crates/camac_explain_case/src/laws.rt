@@ -1,6 +1,6 @@
 //! What holds of the lines that are told beside a rule, as contracts of functions that do nothing.
 
-ghost use Rattle.camac_explain_case.specs.Told.{SetsAreBefore, WaitsAreOfThePlan};
+ghost use Rattle.camac_explain_case.specs.Case.{SetsAreBefore, WaitsAreOfThePlan};
 
 /// Auxiliary controllers are told of too many cycles only where a crate of the plan has waits.
 #[tactic(auto, using(crate::proofs::Told::waits_are_of_the_plan))]

@@ -8,58 +8,44 @@ use Rattle.camac_plan.specs.declared.fault.PlanCase.TheVariants as case
 use Rattle.camac_plan.specs.declared.fault.PlanTable.{PlanTable}
 use Rattle.camac_plan.specs.declared.key.PlanKey.{PlanKey}
 use Rattle.camac_plan.specs.declared.key.PlanKey.TheVariants as key
-use Rattle.camac_explain_plan.specs.Path.{way_to}
+use Rattle.camac_explain_plan.specs.Path.{way_to, value_in}
 use Rattle.camac_explain_plan.specs.Place.{place_text}
-use Rattle.camac_explain_plan.specs.Table.{value_in}
-use Rattle.camac_explain_plan.specs.Told.{case_text}
+use Rattle.camac_explain_plan.specs.Told.{case_text, unknown_sentence}
 use Rattle.camac_explain_plan.specs.declared.texts.TheConstants.{DEEP}
-use Rattle.camac_explain_plan.specs.Unknown.{unknown_sentence}
 
 -- the table that a text says as TOML
 abbrev pub document : List ℕ → Option Members
 document text = if is_utf8 text then parse_document text else None
 
--- the key at which a rule is broken, if it is one of those that a plan has
-abbrev pub key_in : PlanCase → Option PlanKey
-key_in (case.Missing table key kind) = Some key
-key_in (case.Kind table key kind) = Some key
-key_in (case.Range table key found low high) = Some key
-key_in (case.Name table key) = Some key
-key_in (case.Probe table width) = Some key.Width
-key_in (case.ClearingProbe table) = Some key.Clears
-key_in (case.Twice table key first) = Some key
-key_in (case.NoType table key) = Some key
-key_in _ = None
+-- the table where a rule is broken, and the key, if it is one of those that a plan has
+abbrev pub spot_in : PlanCase → Option (PlanTable × Option PlanKey)
+spot_in (case.Missing table key kind) = Some (table, Some key)
+spot_in (case.Kind table key kind) = Some (table, Some key)
+spot_in (case.Range table key found low high) = Some (table, Some key)
+spot_in (case.Name table key) = Some (table, Some key)
+spot_in (case.Probe table width) = Some (table, Some key.Width)
+spot_in (case.ClearingProbe table) = Some (table, Some key.Clears)
+spot_in (case.Full table) = Some (table, None)
+spot_in (case.Twice table key first) = Some (table, Some key)
+spot_in (case.NoType table key) = Some (table, Some key)
+spot_in (case.Command table f a first) = Some (table, None)
+spot_in _ = None
 
 abbrev pub value_at_key : (top : Members) → PlanTable → Option PlanKey → Option Data
 value_at_key top table key = option_and_then (value_in top table) key
 
 -- the way to the place, and what is told of it
-abbrev pub at_table : (top : Members) → PlanTable → PlanCase → List ℕ
-at_table top table c = way_to top table (key_in c) ++ (codes ": " ++ case_text top (value_at_key top table (key_in c)) c)
+abbrev pub at_table : (top : Members) → PlanTable → Option PlanKey → PlanCase → List ℕ
+at_table top table key c = way_to top table key ++ (codes ": " ++ case_text top (value_at_key top table key) c)
 
 -- the key that its table has not, by its number
 abbrev pub unknown_in : PlanCase → Option (PlanTable × ℕ)
 unknown_in (case.Unknown table entry) = Some (table, entry)
 unknown_in _ = None
 
--- the table of any other case
-abbrev pub table_in : PlanCase → Option PlanTable
-table_in (case.Missing table key kind) = Some table
-table_in (case.Kind table key kind) = Some table
-table_in (case.Range table key found low high) = Some table
-table_in (case.Name table key) = Some table
-table_in (case.Probe table width) = Some table
-table_in (case.ClearingProbe table) = Some table
-table_in (case.Full table) = Some table
-table_in (case.Twice table key first) = Some table
-table_in (case.NoType table key) = Some table
-table_in (case.Command table f a first) = Some table
-table_in _ = None
-
 abbrev pub unknown_or : (top : Members) → PlanCase → Option (PlanTable × ℕ) → Option (List ℕ)
 unknown_or top c (Some (table, entry)) = unknown_sentence top table entry
-unknown_or top c None = option_map (λ table. at_table top table c) (table_in c)
+unknown_or top c None = option_map (λ spot. at_table top spot.0 spot.1 c) (spot_in c)
 
 -- of a text that says this table
 abbrev pub in_table : (top : Members) → PlanCase → Option (List ℕ)

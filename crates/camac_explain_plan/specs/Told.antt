@@ -1,20 +1,26 @@
--- What is told of a value: what it is, and what is expected there.
-use Rattle.std.specs.Prelude.{ℕ, ◌+◌, List, [], ◌∷◌, Option, Some, None, codes, decimal}
+-- What is told of a value, and of a key that its table has not.
+use Rattle.std.specs.Prelude.{ℕ, ◌+◌, List, [], ◌∷◌, Option, Some, None, codes, decimal, zero, suc, Bool, ◌++◌, find, length, option_map, option_and_then}
 use Rattle.std.specs.Fmt.{signed_decimal}
-use Rattle.toml.specs.Data.{Data, string, integer, table, array, Items, no_items, item, Members, type_name}
-use Rattle.camac_lines.specs.Words.{quoted}
+use Rattle.toml.specs.Data.{Data, string, integer, table, array, Items, no_items, item, Members, type_name, no_members, member}
+use Rattle.camac_lines.specs.Words.{quoted, before_item, is_near}
 use Rattle.camac_plan.specs.declared.fault.PlanCase.{PlanCase}
 use Rattle.camac_plan.specs.declared.fault.PlanCase.TheVariants as case
 use Rattle.camac_plan.specs.declared.fault.PlanTable.{PlanTable}
-use Rattle.camac_plan.specs.declared.fault.PlanTable.TheVariants.{Command}
+use Rattle.camac_plan.specs.declared.fault.PlanTable.TheVariants.{Command, Top, ModuleType, Crate, Station}
 use Rattle.camac_plan.specs.declared.fault.ValueKind.{ValueKind}
 use Rattle.camac_plan.specs.declared.fault.ValueKind.TheVariants.{Number, Flag, Text, Tables}
 use Rattle.camac_plan.specs.declared.key.PlanKey.{PlanKey}
 use Rattle.camac_plan.specs.declared.key.PlanKey.TheVariants as key
-use Rattle.camac_explain_plan.specs.Path.{nth, way_to_first}
+use Rattle.camac_explain_plan.specs.Path.{nth, way_to_first, comma, way_to, kind_of, table_at}
 use Rattle.camac_explain_plan.specs.Place.{hint_of_text}
 use Rattle.camac_explain_plan.specs.declared.texts.TheConstants as text
 use Rattle.camac_sentence.specs.Filled.{filled, with}
+use Rattle.std.specs.List.{concat, list_any}
+use Rattle.camac_plan.specs.Field.{is_text}
+use Rattle.camac_plan.specs.Key.{key_text, keys_of}
+use Rattle.camac_explain_plan.specs.declared.texts.TheConstants.{HOME, MEANT, UNKNOWN}
+use Rattle.camac_explain_plan.specs.declared.unknown.Meant.{Meant}
+use Rattle.camac_explain_plan.specs.declared.unknown.Meant.TheVariants.{Near, Home, Nothing}
 
 abbrev pub needed : ValueKind → List ℕ
 needed (Number low high) = filled text.WHOLE_NUMBER.now (decimal low ∷ decimal high ∷ [])
@@ -96,3 +102,61 @@ case_text top value (case.Twice there key first) = twice_told top value key firs
 case_text top value (case.Command there f a first) =
     filled text.DECLARED.now (decimal f ∷ decimal a ∷ nth (command_place first) (codes "command") ∷ [])
 case_text top value _ = with text.VALUE.now (shown value)
+
+-- What is told of a key that its table has not: what it may be, and the keys of the table.
+
+-- the key of this number, in the order of their bytes, from 0
+abbrev pub nth_key : ℕ → Members → Option (List ℕ)
+nth_key n no_members = None
+nth_key zero (member k d rest) = Some k
+nth_key (suc n) (member k d rest) = nth_key n rest
+
+-- a table of each kind
+abbrev pub homes : List PlanTable
+homes = Top ∷ ModuleType 0 ∷ Command 0 0 ∷ Crate 0 ∷ Station 0 0 ∷ []
+
+abbrev pub has_key : List ℕ → PlanTable → Bool
+has_key k home = list_any (is_text k) (keys_of home)
+
+-- the first key of a list that is near, and the first table that has a key
+abbrev pub near_key : List ℕ → List PlanKey → Option PlanKey
+near_key k known = find (λ (it : PlanKey). is_near k (key_text it)) known
+
+abbrev pub home_of : List ℕ → List PlanTable → Option PlanTable
+home_of k tables = find (has_key k) tables
+
+abbrev pub hint_by : (near : Option PlanKey) → (home : Option PlanTable) → Meant
+hint_by (Some near) home = Near near
+hint_by None (Some home) = Home home
+hint_by None None = Nothing
+
+-- a near key of the table, or a table that has the key
+abbrev pub hint : List ℕ → PlanTable → Meant
+hint k home = hint_by (near_key k (keys_of home)) (home_of k homes)
+
+abbrev pub hint_text : Meant → List ℕ
+hint_text (Near near) = with MEANT.now (key_text near)
+hint_text (Home home) = with HOME.now (kind_of home)
+hint_text Nothing = []
+
+abbrev pub key_item : (before : List ℕ) → PlanKey → List ℕ
+key_item before key = concat (before ∷ codes "`" ∷ key_text key ∷ codes "`" ∷ [])
+
+-- keys in quotes, the first of which has this number in a list of so many
+abbrev pub keys_from : (number count : ℕ) → List PlanKey → List ℕ
+keys_from number count [] = []
+keys_from number count (key ∷ keys) =
+    key_item (before_item number count (codes " and ")) key ++ keys_from (number + 1) count keys
+
+abbrev pub keys_text : PlanTable → List ℕ
+keys_text home = keys_from 0 (length (keys_of home)) (keys_of home)
+
+abbrev pub unknown_text : (top : Members) → PlanTable → (key : List ℕ) → List ℕ
+unknown_text top home key =
+    filled UNKNOWN.now (way_to top home None ∷ comma home ∷ quoted key ∷ hint_text (hint key home) ∷ kind_of home ∷ keys_text home ∷ [])
+
+abbrev pub key_in : (top : Members) → PlanTable → (entry : ℕ) → Option (List ℕ)
+key_in top home entry = option_and_then (nth_key entry) (table_at top home)
+
+abbrev pub unknown_sentence : (top : Members) → PlanTable → (entry : ℕ) → Option (List ℕ)
+unknown_sentence top home entry = option_map (unknown_text top home) (key_in top home entry)

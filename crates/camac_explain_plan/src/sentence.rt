@@ -2,7 +2,7 @@
 
 ghost use Rattle.std.specs.Prelude.{◌≡◌, IfOk, Some, option_map, string_bytes};
 ghost use Rattle.toml.specs.View.{table_view, view};
-ghost use Rattle.camac_explain_plan.specs.Sentence.{IsPlanSentence, IsReadSentence, at_table, in_table, key_in, nested_at, nested_text, no_table, table_in, unknown_in, value_at_key};
+ghost use Rattle.camac_explain_plan.specs.Sentence.{IsPlanSentence, IsReadSentence, at_table, in_table, nested_at, nested_text, no_table, spot_in, unknown_in, value_at_key};
 
 use crate::path::way_to;
 use crate::place::{before, place_sentence};
@@ -85,8 +85,8 @@ fn sentence_of_table(
 {
     match unknown_in(case) {
         Some((table, entry)) => unknown_sentence(alloc, top, table, entry),
-        None => match table_in(case) {
-            Some(table) => at_table(alloc, top, table, case).map(Some),
+        None => match spot_in(case) {
+            Some((table, key)) => at_table(alloc, top, table, key, case).map(Some),
             None => Ok(None),
         },
     }
@@ -101,21 +101,20 @@ fn unknown_in(case: PlanCase) -> Option<(PlanTable, usize)>
     }
 }
 
-// The table of any other case.
-fn table_in(case: PlanCase) -> Option<PlanTable>
-    ensures { result ≡ table_in case }
+// The table where a rule is broken, and the key, if it is one of those that a plan has.
+fn spot_in(case: PlanCase) -> Option<(PlanTable, Option<PlanKey>)>
+    ensures { result ≡ spot_in case }
 {
     match case {
-        PlanCase::Missing { table, .. }
-        | PlanCase::Kind { table, .. }
-        | PlanCase::Range { table, .. }
-        | PlanCase::Name { table, .. }
-        | PlanCase::Probe { table, .. }
-        | PlanCase::ClearingProbe { table }
-        | PlanCase::Full { table }
-        | PlanCase::Twice { table, .. }
-        | PlanCase::NoType { table, .. }
-        | PlanCase::Command { table, .. } => Some(table),
+        PlanCase::Missing { table, key, .. }
+        | PlanCase::Kind { table, key, .. }
+        | PlanCase::Range { table, key, .. }
+        | PlanCase::Name { table, key }
+        | PlanCase::Twice { table, key, .. }
+        | PlanCase::NoType { table, key } => Some((table, Some(key))),
+        PlanCase::Probe { table, .. } => Some((table, Some(PlanKey::Width))),
+        PlanCase::ClearingProbe { table } => Some((table, Some(PlanKey::Clears))),
+        PlanCase::Full { table } | PlanCase::Command { table, .. } => Some((table, None)),
         PlanCase::Text { .. } | PlanCase::Nested { .. } | PlanCase::Unknown { .. } => None,
     }
 }
@@ -125,31 +124,14 @@ fn at_table(
     alloc: Global,
     top: &Table,
     table: PlanTable,
+    key: Option<PlanKey>,
     case: PlanCase,
 ) -> Result<String, AllocError>
-    ensures { IfOk result (λ s. string_bytes s ≡ at_table (table_view top.now) table case) }
+    ensures { IfOk result (λ s. string_bytes s ≡ at_table (table_view top.now) table key case) }
 {
-    let key = key_in(case);
     let way = way_to(alloc, top, table, key)?;
     let told = case_text(alloc, top, value_at_key(top, table, key), case)?;
     format!(in alloc; "{way}: {told}")
-}
-
-// The key at which a rule is broken, if it is one of those that a plan has.
-fn key_in(case: PlanCase) -> Option<PlanKey>
-    ensures { result ≡ key_in case }
-{
-    match case {
-        PlanCase::Missing { key, .. }
-        | PlanCase::Kind { key, .. }
-        | PlanCase::Range { key, .. }
-        | PlanCase::Name { key, .. }
-        | PlanCase::Twice { key, .. }
-        | PlanCase::NoType { key, .. } => Some(key),
-        PlanCase::Probe { .. } => Some(PlanKey::Width),
-        PlanCase::ClearingProbe { .. } => Some(PlanKey::Clears),
-        _ => None,
-    }
 }
 
 fn value_at_key<'a>(top: &'a Table, table: PlanTable, key: Option<PlanKey>) -> Option<&'a Value>

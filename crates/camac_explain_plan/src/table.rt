@@ -3,8 +3,9 @@
 ghost use Rattle.std.specs.Prelude.{◌≡◌, option_map};
 ghost use Rattle.toml.specs.View.{table_view, view};
 ghost use Rattle.camac_plan.specs.Field.{value_at};
-ghost use Rattle.camac_explain_plan.specs.Table.{item_at, kind_of, table_at, value_in};
+ghost use Rattle.camac_explain_plan.specs.Path.{item_at, kind_of, table_at, value_in};
 
+use crate::texts;
 use camac_plan::{PlanKey, PlanTable};
 use toml::{Table, Value};
 
@@ -66,10 +67,10 @@ pub(crate) fn kind_of(table: PlanTable) -> &'static str
     ensures { result.now ≡ kind_of table }
 {
     match table {
-        PlanTable::Top => "the plan itself",
-        PlanTable::ModuleType { .. } => "a `[[type]]`",
-        PlanTable::Command { .. } => "a command",
-        PlanTable::Crate { .. } => "a `[[crate]]`",
-        PlanTable::Station { .. } => "a `[[crate.station]]`",
+        PlanTable::Top => texts::PLAN,
+        PlanTable::ModuleType { .. } => texts::TYPE,
+        PlanTable::Command { .. } => texts::COMMAND,
+        PlanTable::Crate { .. } => texts::CRATE,
+        PlanTable::Station { .. } => texts::STATION,
     }
 }

@@ -55,3 +55,14 @@ pub const UNKNOWN: &str = "%%%: there is no such key.% The keys of % are %.";
 pub const MEANT: &str = " Did you mean `%`?";
 
 pub const HOME: &str = " It is a key of %.";
+
+// Of a table: what it is.
+pub const PLAN: &str = "the plan itself";
+
+pub const TYPE: &str = "a `[[type]]`";
+
+pub const COMMAND: &str = "a command";
+
+pub const CRATE: &str = "a `[[crate]]`";
+
+pub const STATION: &str = "a `[[crate.station]]`";

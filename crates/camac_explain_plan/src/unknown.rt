@@ -4,7 +4,7 @@ ghost use Rattle.std.specs.Prelude.{◌≡◌, ◌++◌, IfOk, OnOk, length, opt
 ghost use Rattle.toml.specs.View.{table_view};
 ghost use Rattle.std.specs.List.{list_any};
 ghost use Rattle.camac_plan.specs.Field.{is_text};
-ghost use Rattle.camac_explain_plan.specs.Unknown.{hint, hint_text, home_of, homes, key_in, key_item, keys_from, near_key, nth_key, unknown_sentence, unknown_text};
+ghost use Rattle.camac_explain_plan.specs.Told.{hint, hint_text, home_of, homes, key_in, key_item, keys_from, near_key, nth_key, unknown_sentence, unknown_text};
 
 use crate::path::{comma, way_to};
 use crate::table::{kind_of, table_at};

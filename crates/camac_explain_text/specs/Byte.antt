@@ -13,10 +13,9 @@ use Rattle.camac_text_cursor.specs.Readers.{is_keyword, is_sign}
 use Rattle.camac_explain_text_words.specs.Absent.{absent_sign, absent_word}
 use Rattle.camac_explain_text_words.specs.Forms.{form_of}
 use Rattle.camac_explain_text_place.specs.Before.{Standing, declared}
-use Rattle.camac_explain_text_place.specs.Found.{word_at}
-use Rattle.camac_explain_text_place.specs.Place.{Place, adjoins_word, moves_data, wants_lam}
+use Rattle.camac_explain_text_place.specs.Place.{word_at, Place, adjoins_word, moves_data, wants_lam}
 use Rattle.camac_explain_text.specs.Hint.{absent_text}
-use Rattle.camac_explain_text.specs.Mistake.{case, first_case}
+use Rattle.camac_explain_text.specs.Mistake.{first_case}
 use Rattle.camac_explain_text.specs.declared.texts.TheConstants.{BYTE_ORDER, DIGITS, FIRST_LETTER, FORM}
 use Rattle.camac_sentence.specs.Filled.{with}
 
@@ -46,9 +45,9 @@ method p =
 unfoldable pub told_of_byte : Place → Option (List ℕ)
 told_of_byte p =
     first_case (
-    case (adjoins_word p && (starts_with nat_eq p.rest (codes "_") || starts_with nat_eq p.rest (codes "'"))) DIGITS.now
-    ∷ case (starts_with nat_eq p.rest (239 ∷ 187 ∷ 191 ∷ [])) BYTE_ORDER.now
-    ∷ case (starts_with nat_eq p.rest (codes "_")) FIRST_LETTER.now ∷ [])
+    (adjoins_word p && (starts_with nat_eq p.rest (codes "_") || starts_with nat_eq p.rest (codes "'")), DIGITS.now)
+    ∷ (starts_with nat_eq p.rest (239 ∷ 187 ∷ 191 ∷ []), BYTE_ORDER.now)
+    ∷ (starts_with nat_eq p.rest (codes "_"), FIRST_LETTER.now) ∷ [])
 
 -- what is to be known: the first of these that is so
 unfoldable pub byte_hint : Place → Option (List ℕ)

@@ -1,7 +1,5 @@
 pub mod Byte
 pub mod Hint
-pub mod Marked
 pub mod Meant
 pub mod Mistake
 pub mod Sentence
-pub mod Text

@@ -21,9 +21,8 @@ use Rattle.camac_explain_text_words.specs.Spelled.{is_hexadecimal, is_word, sign
 use Rattle.camac_explain_text_words.specs.declared.forms.TheConstants.{ASSIGNMENT}
 use Rattle.camac_explain_text_place.specs.Before.{Standing, begins_statement, called_in, declared, first_of, is_in_brackets, is_kind, near, open_line, wants_new_name, word_of}
 use Rattle.camac_explain_text.specs.Hint.{absent_text, no_arrow_text, takes_text}
-use Rattle.camac_explain_text.specs.Marked.{ends_in_marked_number}
+use Rattle.camac_explain_text.specs.Mistake.{ends_in_marked_number, first_case, is_either, told_of_kind, usual_mistake}
 use Rattle.camac_explain_text.specs.declared.texts.TheConstants.{ADDRESS, BRACKETS, CALLED, CYCLES_SET, DIGITS, FORM, INSIDE, MARKED, MEANT, MEANT_BEFORE, MEANT_NAME, NO_RESULT, NO_STATEMENT, OF_LANGUAGE, OPEN, TESTED}
-use Rattle.camac_explain_text.specs.Mistake.{case, first_case, is_either, told_of_kind, usual_mistake}
 use Rattle.camac_explain_text_place.specs.Place.{Place, absent_word_at, adjoins_word, begins_line, begins_statement_at, expects, is_assigned, is_before, is_before_name, last}
 
 unfoldable pub near_among : (name : List ℕ) → List Keyword → Option (List ℕ)
@@ -73,8 +72,8 @@ is_spelled_out _ = false
 -- a word right after a number, as in `0x1F`; a comment where a number may stand, as in `put #ff`
 unfoldable pub decimal_digits : Place → Option (List ℕ)
 decimal_digits p =
-    first_case (case (is_spelled_out p.token && (is_number (last p) && adjoins_word p)) DIGITS.now
-    ∷ case (expects p choice.Number && ends_in_marked_number p.text) MARKED.now ∷ [])
+    first_case ((is_spelled_out p.token && (is_number (last p) && adjoins_word p), DIGITS.now)
+    ∷ (expects p choice.Number && ends_in_marked_number p.text, MARKED.now) ∷ [])
 
 -- what a sign is taken for
 abbrev pub taken_for : Place → Sign → Option Sign
@@ -156,9 +155,9 @@ name_hint p wanted =
     (or_else (option_map (with MEANT.now) (near_word p))
     (or_else (option_map (λ d. with MEANT_NAME.now (quoted d.name)) (near p.bytes wanted p.before))
     (first_case (
-    case (is_kind wanted named.Variable && is_before p (codes "(")) (with CALLED.now (shown_text p.bytes))
-    ∷ case (is_kind wanted named.Variable && (not (is_assigned p) && is_hexadecimal p.bytes)) DIGITS.now
-    ∷ case (begins_line p && (begins_statement_at p && is_before_name p)) NO_STATEMENT.now
+    (is_kind wanted named.Variable && is_before p (codes "("), with CALLED.now (shown_text p.bytes))
+    ∷ (is_kind wanted named.Variable && (not (is_assigned p) && is_hexadecimal p.bytes), DIGITS.now)
+    ∷ (begins_line p && (begins_statement_at p && is_before_name p), NO_STATEMENT.now)
     ∷ []))))
 
 -- behind a name that is declared as another kind: what a procedure, a register or a LAM is for, in the place of a variable
@@ -166,10 +165,10 @@ unfoldable pub kind_hint : Place → (wanted is : NameKind) → Option (List ℕ
 kind_hint p wanted is =
     or_else
     (first_case (
-    case (is_kind wanted named.Variable && (is_kind is named.Procedure && begins_statement_at p)) (with CALLED.now (shown_text p.bytes))
-    ∷ case (is_kind wanted named.Variable && is_kind is named.Procedure) (with NO_RESULT.now (shown_text p.bytes))
-    ∷ case (is_kind wanted named.Variable && is_kind is named.Register) (with ADDRESS.now (shown_text p.bytes))
-    ∷ case (is_kind wanted named.Variable && is_kind is named.Lam) (with TESTED.now (shown_text p.bytes)) ∷ []))
+    (is_kind wanted named.Variable && (is_kind is named.Procedure && begins_statement_at p), with CALLED.now (shown_text p.bytes))
+    ∷ (is_kind wanted named.Variable && is_kind is named.Procedure, with NO_RESULT.now (shown_text p.bytes))
+    ∷ (is_kind wanted named.Variable && is_kind is named.Register, with ADDRESS.now (shown_text p.bytes))
+    ∷ (is_kind wanted named.Variable && is_kind is named.Lam, with TESTED.now (shown_text p.bytes)) ∷ []))
     (told_of_kind wanted is)
 
 -- a sign of the language that begins as one of another, as `..` does
@@ -193,9 +192,9 @@ is_set p w = is_assigned p && not (begins_statement w)
 unfoldable pub kept_word : Place → Keyword → Option (List ℕ)
 kept_word p w =
     first_case (
-    case (is_name_wanted p) (with OF_LANGUAGE.now (word_text w))
-    ∷ case (is_set p w && is_either word.Q word.X w) CYCLES_SET.now
-    ∷ case (is_set p w) (with OF_LANGUAGE.now (word_text w)) ∷ [])
+    (is_name_wanted p, with OF_LANGUAGE.now (word_text w))
+    ∷ (is_set p w && is_either word.Q word.X w, CYCLES_SET.now)
+    ∷ (is_set p w, with OF_LANGUAGE.now (word_text w)) ∷ [])
 
 abbrev pub own_of_word : Place → Keyword → Option (List ℕ)
 own_of_word p w = or_else (inside p w) (kept_word p w)

@@ -1,5 +1,6 @@
 -- What is told of a text's fault: what its rule knew, with numbers in decimal and names in quotes, and a hint of its own, where it has one.
-use Rattle.std.specs.Prelude.{ℕ, ◌==◌, Bool, ◌&&◌, ◌||◌, not, List, [], ◌∷◌, Option, Some, None, codes, decimal, is_none, length, nat_eq, option_map, string_bytes, if◌then◌else◌}
+use Rattle.std.specs.Prelude.{ℕ, ◌==◌, Bool, ◌&&◌, ◌||◌, not, List, [], ◌∷◌, Option, Some, None, codes, decimal, is_none, length, nat_eq, option_map, string_bytes, if◌then◌else◌, ◌≡◌, true, false, unwrap_or}
+use Rattle.std.specs.List.{starts_with}
 use Rattle.camac_lines.specs.Words.{quoted}
 use Rattle.camac_tokens.specs.Words.{or_else}
 use Rattle.camac_tokens.specs.declared.fault.Found.{Found}
@@ -8,20 +9,26 @@ use Rattle.camac_tokens.specs.declared.fault.NameKind.{NameKind}
 use Rattle.camac_tokens.specs.declared.fault.NameKind.TheVariants as named
 use Rattle.camac_tokens.specs.declared.fault.TextCase.{TextCase}
 use Rattle.camac_tokens.specs.declared.fault.TextCase.TheVariants as told
+use Rattle.camac_tokens.specs.declared.fault.TextFault.TheVariants as text_fault
+use Rattle.camac_tokens.specs.declared.token.TokenKind.{TokenKind}
+use Rattle.camac_tokens.specs.declared.token.TokenKind.TheVariants as kind
+use Rattle.camac_tokens.specs.Fault.{Fault}
+use Rattle.camac_tokens.specs.Scanning.{tokens_of, last_line}
 use Rattle.camac_text_cursor.specs.declared.choice.Choices.{Choices}
 use Rattle.camac_explain_text_words.specs.Absent.{absent_sign, is_spelled}
-use Rattle.camac_explain_text_words.specs.Parts.{character, first_byte}
+use Rattle.camac_explain_text_words.specs.Spelled.{character, first_byte}
 use Rattle.camac_explain_text_place.specs.Before.{called_in, is_kind}
 use Rattle.camac_explain_text_place.specs.Expected.{expected_of, list_text}
+use Rattle.camac_text.specs.Expecting.{TellsAfter}
 use Rattle.camac_explain_text.specs.Byte.{byte_hint}
 use Rattle.camac_explain_text.specs.Hint.{absent_text, takes_text}
-use Rattle.camac_explain_text_words.specs.Limits.{limit_text}
+use Rattle.camac_explain_text_words.specs.Forms.{limit_text}
 use Rattle.camac_explain_text.specs.Meant.{kind_hint, name_hint, own_sentence, unexpected_hint, word_before}
 use Rattle.camac_explain_text.specs.Mistake.{outside_of_bodies}
 use Rattle.camac_explain_text.specs.declared.sentence.TextTold.{TextTold}
-use Rattle.camac_explain_text.specs.declared.texts.TheConstants.{ABOVE, ABOVE_ALL, BRANCH, BYTE, CHARACTER, COUNTER_KEPT, DIVISOR, END, EXPECTED, FOUND, HIDDEN, ITSELF, KEPT_TWICE, MEASURE_KEPT, MISSING, NO_LOCK, OTHER, OTHER_AT, TAKEN, TAKEN_AT}
+use Rattle.camac_explain_text.specs.declared.texts.TheConstants.{ABOVE, ABOVE_ALL, BRANCH, BYTE, CHARACTER, COUNTER_KEPT, DIVISOR, END, EXPECTED, FOUND, HIDDEN, ITSELF, KEPT_TWICE, MEASURE_KEPT, MISSING, NO_LOCK, OTHER, OTHER_AT, TAKEN, TAKEN_AT, PLAN_FIRST}
 use Rattle.camac_sentence.specs.Filled.{filled, with}
-use Rattle.camac_explain_text_place.specs.Place.{Place, absent_word_at, begins_statement_at, declared_line, is_assigned, is_before}
+use Rattle.camac_explain_text_place.specs.Place.{Place, absent_word_at, begins_statement_at, declared_line, is_assigned, is_before, place_at, kind_at, rest_of}
 
 abbrev pub noun : NameKind → List ℕ
 noun named.Lam = codes "LAM"
@@ -136,3 +143,21 @@ case_said p told.MeasureKept = of_word MEASURE_KEPT.now p.bytes
 case_said p (told.Undeclared wanted what) = undeclared p wanted what
 case_said p (told.Limit limit) = with_hint (limit_text p.bytes limit) None
 case_said p told.Branch = of_word BRANCH.now p.bytes
+
+abbrev pub is_buffer : TokenKind → Bool
+is_buffer (kind.Name name) = starts_with nat_eq name (codes "buffer")
+is_buffer _ = false
+
+-- as a plan, the text begins with the word `buffer` or, where its fault is the first of it, with a `[` there
+abbrev pub begins_like_a_plan : (left : ℕ) → (text : List ℕ) → Bool
+begins_like_a_plan left text = unwrap_or (option_map is_buffer (kind_at text)) (starts_with nat_eq (rest_of left text) (codes "["))
+
+abbrev pub fault_said : (is_plan : Bool) → Choices → (text : List ℕ) → TextCase → (left : ℕ) → Said
+fault_said true noted text case left = alone PLAN_FIRST.now
+fault_said false noted text case left = case_said (place_at noted left text) case
+
+-- Of the first fault of a text. Where a rule of the grammar is broken, what the reader looked for there was noted, if no token of the text has a fault.
+abbrev pub IsTextTold : (text : List ℕ) → Fault → Said → Type 0
+IsTextTold text f said =
+    (noted : Choices) × TellsAfter (tokens_of text) (last_line text) (text_fault.Broken f.case f.spot) noted
+    × (said ≡ fault_said (begins_like_a_plan f.spot.left text) noted text f.case f.spot.left)

@@ -2,7 +2,7 @@
 
 ghost use Rattle.std.specs.Prelude.{◌≡◌, length, take_while};
 ghost use Rattle.std.specs.Char.{is_ascii_hexdigit};
-ghost use Rattle.camac_explain_text.specs.Marked.{ends_in_marked_number, is_number_alone};
+ghost use Rattle.camac_explain_text.specs.Mistake.{ends_in_marked_number, is_number_alone};
 
 use camac_explain_text_place::kind_at;
 use camac_explain_text_words::behind;

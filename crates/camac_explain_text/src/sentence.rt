@@ -7,8 +7,7 @@ ghost use Rattle.camac_explain_text.specs.Hint.{hint_text};
 ghost use Rattle.camac_explain_text.specs.Meant.{word_before};
 ghost use Rattle.camac_explain_text.specs.Mistake.{outside_of_bodies};
 ghost use Rattle.camac_explain_text_place.specs.Place.{place_of};
-ghost use Rattle.camac_explain_text.specs.Text.{begins_like_a_plan, fault_said};
-ghost use Rattle.camac_explain_text.specs.Sentence.{absent_variable, arguments_said, byte_said, case_said, expected_sentence, found_said, found_text, is_of_another_language, is_value, not_there, noun, number_text, of_word, other_byte_text, other_kind, other_text, said_of, taken, taken_text, undeclared, unexpected};
+ghost use Rattle.camac_explain_text.specs.Sentence.{begins_like_a_plan, fault_said, absent_variable, arguments_said, byte_said, case_said, expected_sentence, found_said, found_text, is_of_another_language, is_value, not_there, noun, number_text, of_word, other_byte_text, other_kind, other_text, said_of, taken, taken_text, undeclared, unexpected};
 ghost use Rattle.camac_sentence.specs.Filled.{part_text};
 
 use crate::byte::byte_hint;

@@ -18,7 +18,7 @@ use Rattle.camac_explain_text_place.specs.declared.expected.Expected.{Expected}
 use Rattle.camac_explain_text_place.specs.declared.expected.Expected.TheVariants as expected
 use Rattle.camac_explain_text_place.specs.declared.expected.Group.{Group}
 use Rattle.camac_explain_text_place.specs.declared.expected.Group.TheVariants as group
-use Rattle.camac_explain_text_place.specs.declared.expected.TheConstants.{GROUPS}
+use Rattle.camac_explain_text_place.specs.declared.expected.TheConstants.{GROUPS, DECLARATION, STATEMENT, CONDITION, EXPRESSION, NUMBER, NAME, OPERATOR, COMPARISON}
 
 -- a second `not` may not stand after one
 abbrev pub is_condition : Choices → Bool
@@ -70,14 +70,14 @@ expected_of noted =
     ++ each_if noted
 
 abbrev pub group_text : Group → List ℕ
-group_text group.Declaration = codes "a declaration"
-group_text group.Statement = codes "a statement"
-group_text group.Condition = codes "a condition"
-group_text group.Expression = codes "an expression"
-group_text group.Number = codes "a number"
-group_text group.Name = codes "a name"
-group_text group.Operator = codes "an operator"
-group_text group.Comparison = codes "a comparison"
+group_text group.Declaration = DECLARATION.now
+group_text group.Statement = STATEMENT.now
+group_text group.Condition = CONDITION.now
+group_text group.Expression = EXPRESSION.now
+group_text group.Number = NUMBER.now
+group_text group.Name = NAME.now
+group_text group.Operator = OPERATOR.now
+group_text group.Comparison = COMPARISON.now
 
 abbrev pub expected_text : Expected → List ℕ
 expected_text (expected.Group g) = group_text g

@@ -1,4 +1,3 @@
 pub mod Before
 pub mod Expected
-pub mod Found
 pub mod Place

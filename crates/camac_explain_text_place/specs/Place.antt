@@ -1,14 +1,16 @@
 -- A place of a text at which a fault shows: the token there, what stands around it, and what may stand in its place.
-use Rattle.std.specs.Prelude.{ℕ, ◌-◌, ◌==◌, Bool, false, ◌&&◌, ◌||◌, nat_eq, not, List, [], ◌∷◌, codes, drop, is_none, length, option_map, slice_get, Option, Some, None, Result, Ok, Err, if◌then◌else◌}
-use Rattle.std.specs.Char.{is_ascii_whitespace}
+use Rattle.std.specs.Prelude.{ℕ, ◌-◌, List, [], ◌∷◌, drop, length, option_map, slice_get, unwrap_or, take, take_while, Option, Some, None, if◌then◌else◌, ◌==◌, Bool, false, ◌&&◌, ◌||◌, nat_eq, not, codes, is_none, Result, Ok, Err}
+use Rattle.std.specs.Char.{is_ascii_alphabetic, is_ascii_digit, is_ascii_whitespace}
+use Rattle.camac_tokens.specs.declared.token.Sign.{Sign}
+use Rattle.camac_tokens.specs.declared.token.Token.{Token}
+use Rattle.camac_tokens.specs.declared.token.TokenKind.{TokenKind}
+use Rattle.camac_tokens.specs.Left.{ahead_of}
+use Rattle.camac_tokens.specs.Scanning.{is_name_byte, pair_at, tokens_of}
 use Rattle.std.specs.List.{prefix_len, starts_with}
 use Rattle.camac_tokens.specs.Fault.{Fault}
-use Rattle.camac_tokens.specs.Scanning.{is_name_byte, tokens_of}
 use Rattle.camac_tokens.specs.declared.fault.NameKind.{NameKind}
 use Rattle.camac_tokens.specs.declared.fault.NameKind.TheVariants as named
 use Rattle.camac_tokens.specs.declared.token.Keyword.TheVariants as word
-use Rattle.camac_tokens.specs.declared.token.Token.{Token}
-use Rattle.camac_tokens.specs.declared.token.TokenKind.{TokenKind}
 use Rattle.camac_text_cursor.specs.Choice.{has as has_all, held}
 use Rattle.camac_text_cursor.specs.Readers.{is_keyword, is_name}
 use Rattle.camac_text_cursor.specs.declared.choice.Choice.{Choice}
@@ -16,8 +18,41 @@ use Rattle.camac_text_cursor.specs.declared.choice.Choice.TheVariants as choice
 use Rattle.camac_text_cursor.specs.declared.choice.Choices.{Choices}
 use Rattle.camac_explain_text_words.specs.Absent.{absent_word}
 use Rattle.camac_explain_text_place.specs.Before.{Standing, declared, first_of, last_of, standing, standing_of}
-use Rattle.camac_explain_text_place.specs.Found.{kind_at, rest_of, text_before, word_at}
 use Rattle.camac_explain_text_place.specs.declared.found.Found.{Found}
+
+-- The token at which a fault shows.
+
+-- a text up to the place from which so many bytes are left, and from there on
+abbrev pub text_before : (left : ℕ) → (text : List ℕ) → List ℕ
+text_before left text = take (length text - left) text
+
+abbrev pub rest_of : (left : ℕ) → (text : List ℕ) → List ℕ
+rest_of left text = drop (length text - left) text
+
+-- a byte that begins no token stands for itself
+abbrev pub sign_length : Option Sign → ℕ
+sign_length (Some s) = 2
+sign_length None = 1
+
+abbrev pub begun_length : (first : ℕ) → (text : List ℕ) → ℕ
+begun_length first text =
+    if is_ascii_alphabetic first then length (take_while is_name_byte text)
+    else (if is_ascii_digit first then length (take_while is_ascii_digit text)
+    else sign_length (pair_at text))
+
+abbrev pub word_length : (text : List ℕ) → ℕ
+word_length [] = 0
+word_length (b ∷ bs) = begun_length b (b ∷ bs)
+
+-- the word, the number, the sign or the one byte with which a text begins
+abbrev pub word_at : (text : List ℕ) → List ℕ
+word_at text = take (word_length text) text
+
+-- the kind of the first token; none where no token is left, or what is no token stands there
+abbrev pub kind_at : (text : List ℕ) → Option TokenKind
+kind_at text = option_map (λ (t : Token). t.kind) (slice_get (ahead_of text).tokens 0)
+
+-- A place of a text at which a fault shows: the token there, what stands around it, and what may stand in its place.
 
 -- the token's bytes and what it is, the texts before it and from it on, what the tokens before it come to, those of its line, and what may stand there
 pub record Place : Type 0 where
@@ -83,13 +118,9 @@ expects p c = has p.noted c
 abbrev pub begins_statement_at : Place → Bool
 begins_statement_at p = expects p choice.Statement
 
-abbrev pub is_of_name : Option ℕ → Bool
-is_of_name (Some b) = is_name_byte b
-is_of_name None = false
-
 -- right after a name, a word or a number
 abbrev pub adjoins_word : Place → Bool
-adjoins_word p = is_of_name (slice_get p.text (length p.text - 1))
+adjoins_word p = unwrap_or (option_map is_name_byte (slice_get p.text (length p.text - 1))) false
 
 -- only blanks stand behind the last line feed
 abbrev pub ends_in_blanks : (is_blank_line : Bool) → (text : List ℕ) → Bool

@@ -230,7 +230,7 @@ impl Before {
     }
 }
 
-#[tactic(auto, using(crate::proofs::Lasts::last_of_more))]
+#[tactic(auto, using(crate::proofs::Tokens::last_of_more))]
 fn keep_last(phrase: &mut Vec<TokenKind>) -> Result<(), AllocError>
     ensures { OnOk result (phrase.new.items ≡ last_alone phrase.old.items) }
 {
@@ -255,7 +255,7 @@ fn is_outside(declared: &Declared) -> bool
 }
 
 // The last of these names is that of a procedure with so many parameters.
-#[tactic(auto, using(crate::proofs::Lasts::with_last))]
+#[tactic(auto, using(crate::proofs::Tokens::with_last))]
 fn set_parameters(names: &mut Vec<Declared>, parameters: usize) -> Result<(), AllocError>
     ensures { OnOk result (names.new.items ≡ with_parameters parameters names.old.items) }
 {

@@ -25,6 +25,22 @@ pub enum Group {
     Comparison,
 }
 
+const DECLARATION: &str = "a declaration";
+
+const STATEMENT: &str = "a statement";
+
+const CONDITION: &str = "a condition";
+
+const EXPRESSION: &str = "an expression";
+
+const NUMBER: &str = "a number";
+
+const NAME: &str = "a name";
+
+const OPERATOR: &str = "an operator";
+
+const COMPARISON: &str = "a comparison";
+
 const GROUPS: [Group; 8] = [
     Group::Declaration,
     Group::Statement,
@@ -63,14 +79,14 @@ fn group_text(group: Group) -> &'static str
     ensures { result.now ≡ group_text group }
 {
     match group {
-        Group::Declaration => "a declaration",
-        Group::Statement => "a statement",
-        Group::Condition => "a condition",
-        Group::Expression => "an expression",
-        Group::Number => "a number",
-        Group::Name => "a name",
-        Group::Operator => "an operator",
-        Group::Comparison => "a comparison",
+        Group::Declaration => DECLARATION,
+        Group::Statement => STATEMENT,
+        Group::Condition => CONDITION,
+        Group::Expression => EXPRESSION,
+        Group::Number => NUMBER,
+        Group::Name => NAME,
+        Group::Operator => OPERATOR,
+        Group::Comparison => COMPARISON,
     }
 }
 

@@ -6,8 +6,7 @@ ghost use Rattle.camac_tokens.specs.Scanning.{is_name_byte, pair_at};
 ghost use Rattle.camac_tokens.specs.Words.{pair_signs, spelled_in};
 ghost use Rattle.camac_explain_text_words.specs.Absent.{absent_of, absent_sign};
 ghost use Rattle.camac_explain_text_place.specs.Before.{standing_of, word_of};
-ghost use Rattle.camac_explain_text_place.specs.Found.{begun_length, kind_at, rest_of, sign_length, text_before, word_at, word_length};
-ghost use Rattle.camac_explain_text_place.specs.Place.{absent_word_at, adjoins_word, begins_line, begins_statement_at, declared_line, ends_in_blanks, expects, is_assigned, is_before, is_before_name, is_free_name, last, line_from, needed, place_at, place_of, tokens_in, wants_register, without_blanks};
+ghost use Rattle.camac_explain_text_place.specs.Place.{begun_length, kind_at, rest_of, sign_length, text_before, word_at, word_length, absent_word_at, adjoins_word, begins_line, begins_statement_at, declared_line, ends_in_blanks, expects, is_assigned, is_before, is_before_name, is_free_name, last, line_from, needed, place_at, place_of, tokens_in, wants_register, without_blanks};
 
 use crate::before::{Before, word_of};
 use camac_explain_text_words::{Absent, absent_sign, absent_word, behind, prefix};

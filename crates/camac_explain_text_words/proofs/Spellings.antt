@@ -1,6 +1,8 @@
--- Each word and sign is spelled in one way.
-use Rattle.std.proofs.Common.{◌≡◌, ℕ, List, Option, Some, None, inl, inr, rules}
+-- Each word and sign is spelled in one way; bytes that are a text, and bytes that are none.
+use Rattle.std.proofs.Common.{◌≡◌, ℕ, List, Option, Some, None, inl, inr, rules, Bool, true, false, refl}
 use Rattle.std.specs.Prelude.{◌⊎◌}
+use Rattle.std.specs.Str.{IsUtf8, is_utf8}
+use Rattle.std.proofs.lemmas.Str.{IsUtf8-from_is_utf8}
 use Rattle.camac_tokens.specs.Words.{action_words, call_words, control_words, declaration_words, keyword, or_else, pair_signs, single_signs, spelled_in}
 use Rattle.camac_tokens.specs.declared.token.Keyword.{Keyword}
 use Rattle.camac_tokens.specs.declared.token.Sign.{Sign}
@@ -61,3 +63,10 @@ of_sign text s e =
       | inl p ↦ entry_of IsSignText pair_signs text s pairs p
       | inr n ↦ entry_of IsSignText single_signs text s singles n
     ]
+
+is_no_text_by : (bytes : List ℕ) (b : Bool) → is_utf8 bytes ≡ b → ¬ (IsUtf8 bytes) → false ≡ b
+is_no_text_by bytes true e h = absurd (h (IsUtf8-from_is_utf8 bytes e))
+is_no_text_by bytes false e h = refl
+
+pub is_no_text : (bytes : List ℕ) → ¬ (IsUtf8 bytes) → false ≡ is_utf8 bytes
+is_no_text bytes h = is_no_text_by bytes (is_utf8 bytes) refl h

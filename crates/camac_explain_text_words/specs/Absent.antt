@@ -42,12 +42,9 @@ abbrev pub begins_before : (sign before rest : List ℕ) → Bool
 begins_before [] before rest = false
 begins_before (b ∷ bs) before rest = not (length bs == 0) && (ends_with nat_eq before (b ∷ []) && starts_with nat_eq rest bs)
 
--- it stands at a place, or begins one byte before it
-abbrev pub is_around : (sign before rest : List ℕ) → Bool
-is_around sign before rest = starts_with nat_eq rest sign || begins_before sign before rest
-
+-- a sign of so many bytes stands at a place, or begins one byte before it
 abbrev pub is_sign_around : (sign : List ℕ) → (size : ℕ) → (before rest : List ℕ) → Bool
-is_sign_around sign size before rest = (length sign == size) && (is_no_word sign && is_around sign before rest)
+is_sign_around sign size before rest = (length sign == size) && (is_no_word sign && (starts_with nat_eq rest sign || begins_before sign before rest))
 
 abbrev pub sign_at : List (List ℕ) → (size : ℕ) → (before rest : List ℕ) → Option (List ℕ)
 sign_at spellings size before rest = find (λ s. is_sign_around s size before rest) spellings

@@ -1,5 +1,3 @@
 pub mod Absent
 pub mod Forms
-pub mod Limits
-pub mod Parts
 pub mod Spelled

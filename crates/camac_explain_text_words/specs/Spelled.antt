@@ -1,7 +1,7 @@
--- How words, signs and numbers are spelled.
-use Rattle.std.specs.Prelude.{ℕ, Bool, ◌&&◌, ◌||◌, List, [], ◌∷◌, ◌++◌, codes, drop, length, nat_le, nat_lt, take_while, if◌then◌else◌}
-use Rattle.std.specs.Char.{is_ascii_digit}
-use Rattle.std.specs.Str.{str_eq_ignore_ascii_case}
+-- How words, signs and numbers are spelled, and the character with which a text begins.
+use Rattle.std.specs.Prelude.{ℕ, Bool, ◌&&◌, ◌||◌, List, [], ◌∷◌, ◌++◌, codes, drop, length, nat_le, nat_lt, take_while, if◌then◌else◌, take}
+use Rattle.std.specs.Char.{is_ascii_digit, is_ascii_graphic}
+use Rattle.std.specs.Str.{str_eq_ignore_ascii_case, is_utf8}
 use denote.Enum.Bare.{sameb}
 use Rattle.camac_tokens.specs.Words.{Spelling, action_words, call_words, control_words, declaration_words, pair_signs, single_signs}
 use Rattle.camac_tokens.specs.contracts.token.Keyword as keyword_type
@@ -34,3 +34,19 @@ abbrev pub is_hexadecimal : (word : List ℕ) → Bool
 is_hexadecimal word =
     nat_lt 0 (length (take_while is_hexadecimal_digit word))
     && str_eq_ignore_ascii_case (codes "h") (drop (length (take_while is_hexadecimal_digit word)) word)
+
+abbrev pub first_byte : (text : List ℕ) → ℕ
+first_byte [] = 0
+first_byte (b ∷ bs) = b
+
+abbrev pub character_size : (first : ℕ) → ℕ
+character_size b =
+    if is_ascii_graphic b then 1 else (if nat_lt b 195 then 0 else (if nat_lt b 224 then 2 else (if nat_lt b 240 then 3 else 4)))
+
+-- bytes that are a text, or nothing
+abbrev pub or_empty : List ℕ → List ℕ
+or_empty bytes = if is_utf8 bytes then bytes else []
+
+-- the bytes of the character with which a text begins, where it is one that can be shown
+abbrev pub character : (text : List ℕ) → List ℕ
+character text = or_empty (take (character_size (first_byte text)) text)

@@ -2,7 +2,7 @@
 
 ghost use Rattle.std.specs.Prelude.{◌≡◌, map, option_map};
 ghost use Rattle.std.specs.Str.{str_eq_ignore_ascii_case};
-ghost use Rattle.camac_explain_text_words.specs.Absent.{absent_of, absent_sign, absent_table, absent_word, begins_before, is_around, is_no_word, is_sign_around, is_spelled, row_of, sign_at, sign_in, word_in};
+ghost use Rattle.camac_explain_text_words.specs.Absent.{absent_of, absent_sign, absent_table, absent_word, begins_before, is_no_word, is_sign_around, is_spelled, row_of, sign_at, sign_in, word_in};
 
 // Words and signs of other languages, and what a script has in their place.
 type Row = (&'static [&'static str], &'static str);
@@ -251,7 +251,9 @@ fn sign_at(
 fn is_sign_around(sign: &[u8], size: usize, before: &[u8], rest: &[u8]) -> bool
     ensures { result ≡ is_sign_around sign.now size before.now rest.now }
 {
-    sign.len() == size && is_no_word(sign) && is_around(sign, before, rest)
+    sign.len() == size
+        && is_no_word(sign)
+        && (rest.starts_with(sign) || begins_before(sign, before, rest))
 }
 
 fn is_no_word(spelled: &[u8]) -> bool
@@ -261,12 +263,6 @@ fn is_no_word(spelled: &[u8]) -> bool
         [first, ..] => !first.is_ascii_alphabetic(),
         [] => false,
     }
-}
-
-fn is_around(sign: &[u8], before: &[u8], rest: &[u8]) -> bool
-    ensures { result ≡ is_around sign.now before.now rest.now }
-{
-    rest.starts_with(sign) || begins_before(sign, before, rest)
 }
 
 // Whether a sign of two bytes or more begins with the last byte before a place, and goes on from there.

@@ -1,7 +1,7 @@
 // The limits of the language, in words.
 
 ghost use Rattle.std.specs.Prelude.{◌≡◌, IfOk, map, string_bytes};
-ghost use Rattle.camac_explain_text_words.specs.Limits.{limit_in, limit_table, limit_text, row_of, row_text};
+ghost use Rattle.camac_explain_text_words.specs.Forms.{limit_in, limit_table, limit_text, limit_of, row_text};
 
 use camac_lang::limits;
 use camac_lines::Quote;
@@ -88,9 +88,9 @@ static LIMITS: [Row; 14] = [
     (Limit::CallDepth, "at most", limits::DEPTH, OPEN),
 ];
 
-#[tactic(auto, unfolding(crate::specs::Limits::limit_table))]
+#[tactic(auto, unfolding(crate::specs::Forms::limit_table))]
 fn limit_table() -> &'static [Row]
-    ensures { map row_of result.now ≡ limit_table }
+    ensures { map limit_of result.now ≡ limit_table }
 {
     &LIMITS
 }
@@ -103,7 +103,7 @@ pub fn limit_told(alloc: Global, token: &[u8], limit: Limit) -> Result<String, A
 }
 
 fn limit_in(alloc: Global, token: &[u8], limit: Limit, rows: &[Row]) -> Result<String, AllocError>
-    ensures { IfOk result (λ s. string_bytes s ≡ limit_in token.now limit (map row_of rows.now)) }
+    ensures { IfOk result (λ s. string_bytes s ≡ limit_in token.now limit (map limit_of rows.now)) }
 {
     'rows: for row in rows {
         if row.0 == limit {
@@ -114,7 +114,7 @@ fn limit_in(alloc: Global, token: &[u8], limit: Limit, rows: &[Row]) -> Result<S
 }
 
 fn row_told(alloc: Global, token: &[u8], row: Row) -> Result<String, AllocError>
-    ensures { IfOk result (λ s. string_bytes s ≡ row_text token.now (row_of row.entry)) }
+    ensures { IfOk result (λ s. string_bytes s ≡ row_text token.now (limit_of row.entry)) }
 {
     let (_, before, most, behind) = row;
     let token = Part::Quoted(Quote(token));

@@ -2,7 +2,7 @@
 
 ghost use Rattle.std.specs.Prelude.{◌≡◌, drop, take};
 ghost use Rattle.std.specs.Str.{is_utf8};
-ghost use Rattle.camac_explain_text_words.specs.Parts.{character, character_size, first_byte, or_empty};
+ghost use Rattle.camac_explain_text_words.specs.Spelled.{character, character_size, first_byte, or_empty};
 
 /// The byte with which a text begins; 0 where there is none.
 pub fn first_byte(text: &[u8]) -> u8

@@ -49,12 +49,10 @@ use Rattle.camac_check_rows.specs.Rows.{found, block_verdict, Turning, turning_f
 use Rattle.camac_laws.specs.Lower.{AtMost}
 use Rattle.camac_laws.specs.Made.{Made, spent, both, from_end, where_some, by_test, for_made, while_made, lock_made, unmade_in, unmade, made_in, made, NoMore}
 use Rattle.camac_laws.specs.CostsBounds.{IsBelow}
-use Rattle.camac_laws.proofs.CostsBounds.{required_ok}
+use Rattle.camac_laws.proofs.Shares.{required_ok, go_ok, ok_same}
 use Rattle.camac_laws.proofs.MadeLists.{KeepsIn, AllIn, in_more, in_both, in_append, none_inside, all_inside, AllAdd, same_more, none_merged, adds_in, adds_none, adds_turn, turns_none, turns_unmade}
-use Rattle.camac_laws.proofs.Shares.{go_ok, ok_same}
-use Rattle.camac_laws.proofs.Sums.{if_below, choice_below, lock_below, then_below, loop_low, loop_room, turn_then_below}
+use Rattle.camac_laws.proofs.Sums.{if_below, choice_below, lock_below, then_below, loop_low, loop_room, turn_then_below, begun}
 use Rattle.camac_laws.proofs.Times.{no_more_up, no_more_merged, block_never, block_in_steps, turns_from_in_steps}
-use Rattle.camac_laws.proofs.Turned.{begun}
 use Rattle.camac_lang.specs.declared.spot.Spot.{Spot}
 
 -- ---- what is not made

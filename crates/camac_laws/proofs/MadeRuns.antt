@@ -27,10 +27,9 @@ use Rattle.camac_check.proofs.Capped.{in_code}
 use Rattle.camac_check_costs.specs.Bodies.{rows_if, procedure_costs, service_costs, costs_over}
 use Rattle.camac_check_rows.specs.Rows.{block_rows}
 use Rattle.camac_laws.specs.Made.{made, SectionKeeps, SectionsKeep, RowsAreOfRuns}
-use Rattle.camac_laws.proofs.CostsBounds.{Low, low, procedure_in_code, service_in_code}
+use Rattle.camac_laws.proofs.Shares.{Low, low, procedure_in_code, service_in_code, go_ok}
 use Rattle.camac_laws.proofs.Made.{block_keeps}
 use Rattle.camac_laws.proofs.MadeLists.{AllIn, all_keep}
-use Rattle.camac_laws.proofs.Shares.{go_ok}
 use Rattle.camac_rules.specs.Fault.{Fault}
 
 front : {A : Type 0} (xs ys : List A) (j : ℕ) (x : A) → slice_get xs j ≡ Some x → slice_get (xs ++ ys) j ≡ Some x

@@ -35,8 +35,7 @@ use Rattle.camac_rules.proofs.Allows.{Allows, allowed, then_allowed, required_al
 use Rattle.camac_rules.proofs.Heads.{write_at}
 use Rattle.camac_rules.proofs.Joined.{range_at-hulls, region_at-join}
 use Rattle.camac_rules.proofs.Values.{some_if}
-use Rattle.camac_laws.specs.Places.{Place, at_turn, HasPlace, BlockHasPlace, IsStart, RegistersHaveAddresses}
-use Rattle.camac_laws.specs.ShownAddresses.{HasAddresses}
+use Rattle.camac_laws.specs.ShownAddresses.{Place, at_turn, HasPlace, BlockHasPlace, IsStart, RegistersHaveAddresses, HasAddresses}
 use Rattle.camac_lang.specs.declared.spot.Spot.{Spot}
 
 -- ---- what is ordered

@@ -27,9 +27,9 @@ use Rattle.camac_rules.specs.Refusal.{go_on, ◌>>=◌, ◌>>◌, required, give
 use Rattle.camac_rules.specs.Statements.{accept_statement, accept_block}
 use Rattle.camac_rules.specs.Transfers.{block_region}
 use Rattle.camac_rules.specs.Writes.{fall_of}
-use Rattle.camac_laws.specs.Places.{Place, place, HasPlace, BlockHasPlace, at_turn}
+use Rattle.camac_laws.specs.ShownAddresses.{Place, place, HasPlace, BlockHasPlace, at_turn}
 use Rattle.camac_laws.specs.Refused.{named, body_of, start_of, heading_spot, heading_of, found_in, accept_section, number_of, HeadingsAreShown, IsOverLimit, IsAccepted, IsRefusedInside, IsRefusedByHeading, ComesTo, RefusedAtPlaces}
-use Rattle.camac_laws.proofs.OverLimit.{over_limit}
+use Rattle.camac_laws.proofs.ShownTurns.{over_limit}
 use Rattle.camac_laws.proofs.Steps.{go_err, required_err, reached_err, reached_is, go_ok, go_is}
 use Rattle.camac_lang.specs.declared.spot.Spot.{Spot}
 use Rattle.camac_range.specs.Interval.{only}

@@ -1,18 +1,29 @@
--- Sums of shares, and of those of a block that counts so often.
-use Rattle.std.proofs.Common.{◌≡◌, ℕ, ◌+◌, ◌-◌, ◌*◌, ◌^◌, ◌<◌, ◌≤◌, suc, List, [], ◌∷◌, ◌++◌, map, refl, sym, ap, ap₂, subst, ◌∙◌, ⊎_elim, mul-add, arith}
+-- Sums of shares, and of the turns of an `each`.
+use Rattle.std.proofs.Common.{◌≡◌, ℕ, ◌+◌, ◌-◌, ◌*◌, ◌^◌, ◌<◌, ◌≤◌, suc, List, [], ◌∷◌, ◌++◌, map, refl, sym, ap, ap₂, subst, ◌∙◌, ⊎_elim, mul-add, arith, zero, true, None, Result, Ok}
 use Rattle.std.proofs.Math.Nat.{mul-le-mul_left}
 use Rattle.std.proofs.lemmas.Nat.{mul-le}
-use Rattle.std.specs.Prelude.{min, max, nat_le, nat_lt, if◌then◌else◌}
-use Rattle.std.proofs.lemmas.Bool.{lt-ltb, le-ltb, lt-leb, le-leb, cases_lt}
+use Rattle.std.proofs.lemmas.Bool.{lt-ltb, le-ltb, lt-leb, le-leb, cases_lt, and_parts, leb-true}
+use Rattle.std.specs.Prelude.{min, max, nat_le, nat_lt, if◌then◌else◌, ◌&&◌}
 use Rattle.camac_model.specs.Fine.{Bounds}
 use Rattle.camac_rules.specs.Capped.{capped}
-use Rattle.camac_rules.specs.Costs.{costs, no_costs, plus, choice_costs, lock_costs, loop_costs}
-use Rattle.camac_rules.specs.Each.{turn_costs}
+use Rattle.camac_rules.specs.Costs.{costs, no_costs, plus, choice_costs, lock_costs, loop_costs, Verdict}
+use Rattle.camac_rules.specs.Each.{turn_costs, each_begins}
+use Rattle.camac_rules.specs.declared.rule.CheckRule.TheVariants.{ValueOutOfRange, TooManyTurns, LoopVariableAssigned}
+use Rattle.camac_rules.specs.Fault.{Fault}
+use Rattle.camac_rules.specs.Refusal.{required}
+use Rattle.camac_rules.specs.Known.{Known}
+use Rattle.camac_rules.specs.Cycles.{Around, may_write}
+use Rattle.camac_rules.specs.Loops.{turn_limit}
 use Rattle.camac_check_rows.specs.declared.inside.Weight.{Weight}
 use Rattle.camac_check_rows.specs.declared.row.Row.{Row}
-use Rattle.camac_check_rows.specs.Turns.{merge}
+use Rattle.camac_check_rows.specs.Turns.{merge, Turned, turns_over}
 use Rattle.camac_check_rows.specs.Weights.{once, turning, first_arm, second_arm, in_64_bits, weighed, inside_row}
 use Rattle.camac_laws.specs.CostsBounds.{total, IsBelow}
+use Rattle.camac_laws.proofs.Steps.{go_ok, required_ok}
+use Rattle.camac_range.specs.Number.{greatest}
+use Rattle.camac_lang.specs.declared.spot.Spot.{Spot}
+
+-- Sums of shares, and of those of a block that counts so often.
 
 pub same_costs : (a b c d e f : ℕ) → a ≡ d → b ≡ e → c ≡ f → costs a b c ≡ costs d e f
 same_costs a b c d e f p q r = cc
@@ -208,3 +219,28 @@ each_sum n t = same_costs _ _ _ _ _ _ (omega arith) (omega arith) (omega arith)
 
 pub each_below : (n : ℕ) (t : Bounds) → IsBelow (plus (costs 0 0 n) t) → IsBelow (weighed once t)
 each_below n t (c, w, s) = (omega (arith, c), omega (arith, w), omega (arith, s))
+
+-- How an `each` begins, and that what can't be reached has no turn.
+
+-- an `each` that may begin, with so many turns
+pub record Begun (around : Around) (x v last n : ℕ) : Type 0 where
+  pub may : may_write around x ≡ true
+  pub small : last ≤ greatest
+  pub is : n ≡ last + 1 - v
+
+pub begun : (around : Around) (spot : Spot) (x v last n : ℕ) → each_begins around spot x v last ≡ Ok n → Begun around x v last n
+begun around spot x v last n e =
+    let a = go_ok (required (nat_le v greatest && nat_le last greatest) ValueOutOfRange spot _) _ n e in
+    let b = go_ok (required (may_write around x) LoopVariableAssigned spot _) _ n a.2 in
+    let c = go_ok (required (nat_le (last + 1 - v) turn_limit) TooManyTurns spot _) _ n b.2 in
+    let small = and_parts (nat_le v greatest) (nat_le last greatest) (required_ok (nat_le v greatest && nat_le last greatest) ValueOutOfRange spot _ a.0 a.1) in
+    let same : ◌≡◌ {A = Result ℕ Fault} (Ok (last + 1 - v)) (Ok n) = c.2 in
+    record {
+      may = required_ok (may_write around x) LoopVariableAssigned spot _ b.0 b.1;
+      small = leb-true last greatest small.1;
+      is = cc;
+    }
+
+pub no_turn : (n x v : ℕ) (judge : Known → Verdict) (rows : Known → List Row) (so_far : Turned) → turns_over capped n x v judge rows None so_far ≡ so_far
+no_turn zero x v judge rows so_far = refl
+no_turn (suc n) x v judge rows so_far = refl

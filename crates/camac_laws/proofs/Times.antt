@@ -25,6 +25,7 @@ use Rattle.camac_rules.specs.Accept.{Section, of_procedure, of_service, at_start
 use Rattle.camac_rules.specs.Procedures.{at_entry}
 use Rattle.camac_check_costs.specs.declared.bodies.Owner.{Owner}
 use Rattle.camac_check_costs.specs.declared.bodies.Owner.TheVariants as owner
+use Rattle.camac_check.proofs.Capped.{in_code}
 use Rattle.camac_check_rows.specs.declared.row.Row.{Row}
 use Rattle.camac_check_rows.specs.declared.inside.Weight.{Weight}
 use Rattle.camac_check_rows.specs.Weights.{once, turning, first_arm, second_arm, in_64_bits, inside_row}
@@ -32,8 +33,8 @@ use Rattle.camac_check_rows.specs.Turns.{merge, Turned, turned, turns_over, each
 use Rattle.camac_check_rows.specs.Rows.{found, block_verdict, Turning, turning_from, lock_inside, lock_head, simple_row, else_row, inside, times_at, statement_rows, block_rows}
 use Rattle.camac_check_costs.specs.Bodies.{rows_if, body_costs, costs_over, sections_of}
 use Rattle.camac_laws.specs.Made.{NoMore, InSteps, TimesInSteps}
-use Rattle.camac_laws.proofs.Turned.{begun, no_turn}
-use Rattle.camac_laws.proofs.Shares.{in_code, go_ok, ok_same}
+use Rattle.camac_laws.proofs.Sums.{begun, no_turn}
+use Rattle.camac_laws.proofs.Shares.{go_ok, ok_same}
 use Rattle.camac_lang.specs.declared.spot.Spot.{Spot}
 
 pub no_more_up : (m n : ℕ) (rs : List Row) → m ≤ n → NoMore m rs → NoMore n rs

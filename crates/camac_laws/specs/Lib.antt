@@ -2,7 +2,6 @@ pub mod Lower
 pub mod Calls
 pub mod Shown
 pub mod ShownAddresses
-pub mod Places
 pub mod Refused
 pub mod Regions
 pub mod Values

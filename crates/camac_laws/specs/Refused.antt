@@ -20,7 +20,7 @@ use Rattle.camac_rules.specs.Procedures.{at_entry}
 use Rattle.camac_rules.specs.Refusal.{◌>>=◌, if_reached}
 use Rattle.camac_rules.specs.Statements.{accept_statement, accept_block}
 use Rattle.camac_check_costs.specs.Bodies.{sections_of}
-use Rattle.camac_laws.specs.Places.{Place, HasPlace, BlockHasPlace}
+use Rattle.camac_laws.specs.ShownAddresses.{Place, HasPlace, BlockHasPlace}
 use Rattle.camac_lang.specs.declared.spot.Spot.{Spot}
 
 -- ---- a procedure or service

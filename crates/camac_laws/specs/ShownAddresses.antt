@@ -1,5 +1,5 @@
--- What the case of a refusal shows of the addresses of a command.
-use Rattle.std.specs.Prelude.{◌≡◌, ℕ, ◌<◌, ◌≤◌, Bool, true, false, Err}
+-- What the case of a refusal shows of the addresses of a command, and that each register that is set where the checker comes has one.
+use Rattle.std.specs.Prelude.{◌≡◌, ℕ, ◌<◌, ◌≤◌, Bool, true, false, Err, List, Some, ◌⊎◌}
 use Rattle.camac_branch.specs.Plan.{Layout}
 use Rattle.camac_range.specs.Interval.{Interval, IsWithin}
 use Rattle.camac_rules.specs.declared.case.Case.{Case}
@@ -7,8 +7,13 @@ use Rattle.camac_rules.specs.declared.case.Case.TheVariants.{NoCrate, NoModule, 
 use Rattle.camac_rules.specs.declared.rule.CheckRule.TheVariants.{StationNotInstalled, CommandNotDeclared}
 use Rattle.camac_rules.specs.Addresses.{crate_end, station_end, sub_address_end, in_plan, is_station, all_in, are_stations_in, has_command, command_widths}
 use Rattle.camac_rules.specs.Fault.{broken}
-use Rattle.camac_rules.specs.Known.{Region}
+use Rattle.camac_rules.specs.Known.{Region, Facts, region_at}
+use Rattle.camac_rules.specs.Accept.{at_start}
+use Rattle.camac_rules.specs.Cycles.{Context, Around}
+use Rattle.camac_rules.specs.Procedures.{at_entry}
 use Rattle.camac_lang.specs.declared.spot.Spot.{Spot}
+use Rattle.camac_lang.specs.Tree.{Block, Parameter}
+pub use Rattle.camac_check_costs.specs.Places.{Place, place, IfReached, at_turn, HasPlace, BlockHasPlace}
 
 -- k is the first number of a range that is not below the end, or of which the test does not hold
 pub record IsFirst (end : ℕ) (r : Interval) (test : ℕ → Bool) (k : ℕ) : Type 0 where
@@ -55,3 +60,12 @@ abbrev pub UndeclaredAreShown : Type 0
 UndeclaredAreShown =
     (plan : Layout) (spot : Spot) (f : ℕ) (g : Region) → HasAddresses g
     → (at : Spot) (case : Case) → command_widths plan spot f g ≡ Err (broken CommandNotDeclared at case) → UndeclaredShown plan f g case
+
+-- what is known where the body of a service begins, or that of a procedure with these parameters
+abbrev pub IsStart : Facts → Type 0
+IsStart k = (k ≡ at_start) ⊎ ((ps : List Parameter) × (at_entry ps ≡ Some k))
+
+abbrev pub RegistersHaveAddresses : Type 0
+RegistersHaveAddresses =
+    (c : Context) (around : Around) (body : Block) (start : Facts) (p : Place) → IsStart start
+    → BlockHasPlace c p around body start → (r : ℕ) (g : Region) → region_at p.known.registers r ≡ Some g → HasAddresses g

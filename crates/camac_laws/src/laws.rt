@@ -2,18 +2,17 @@
 
 ghost use Rattle.camac_laws.specs.Calls.{AcceptedCallsKeep, CallsKeepToRanges, GuardsOnlyStop, GuardsStop};
 ghost use Rattle.camac_laws.specs.Lower.{CostsGrow, CheckedHaveLeast, LeastAreLeast, RefusedHaveNone};
-ghost use Rattle.camac_laws.specs.Places.{RegistersHaveAddresses};
+ghost use Rattle.camac_laws.specs.ShownAddresses.{RegistersHaveAddresses, MissingAreShown, UndeclaredAreShown};
 ghost use Rattle.camac_laws.specs.Refused.{HeadingsAreShown, RefusedAtPlaces};
 ghost use Rattle.camac_laws.specs.Regions.{CommandsAreJudged, CostIsGreatest, StationsAreAll, WaitsMayCome, WidthsAreAll};
 ghost use Rattle.camac_laws.specs.Scans.{ScansAreJudged, WindowsAreCounted, WindowsAreDeclared, WindowsAreInstalled, MissingOverAreShown, UndeclaredOverAreShown};
 ghost use Rattle.camac_laws.specs.Shown.{ArgumentsAreShown, EachTurnsAreShown, ForTurnsAreShown, KeptAreShown, UnfitHaveOne, UnkeptHaveOne, WhileTurnsAreShown, ConditionsAreShown, ExpressionsAreShown, PartsAreShown};
-ghost use Rattle.camac_laws.specs.ShownAddresses.{MissingAreShown, UndeclaredAreShown};
 ghost use Rattle.camac_laws.specs.Values.{BlocksAreFit, ReadsAreAll, WritesAreFit};
 
 use camac_check::Checked;
 
 /// With lower numbers in the headings of its procedures a block is judged the same, and costs no more.
-#[tactic(auto, using(crate::proofs::Grown::costs_grow))]
+#[tactic(auto, using(crate::proofs::Least::costs_grow))]
 pub fn costs_grow()
     ensures { CostsGrow }
 {}
@@ -37,7 +36,7 @@ pub fn checked_have_least()
 {}
 
 /// A guarded call is wrong, where its arguments are not in the ranges of its procedure's parameters.
-#[tactic(auto, using(crate::proofs::Kept::guards_stop))]
+#[tactic(auto, using(crate::proofs::Guarded::guards_stop))]
 pub fn guards_stop()
     ensures { GuardsStop }
 {}
@@ -50,7 +49,7 @@ pub fn guards_only_stop()
 
 /// In every run of an accepted script each call of a procedure has its arguments in the ranges of the heading. With guards the script means
 /// the same as without them, and nothing is wrong.
-#[tactic(auto, using(crate::proofs::Calls::accepted_calls_keep))]
+#[tactic(auto, using(crate::proofs::Guarded::accepted_calls_keep))]
 pub fn accepted_calls_keep()
     ensures { AcceptedCallsKeep }
 {}
@@ -81,7 +80,7 @@ pub fn headings_are_shown()
 
 /// Where an argument is not in the range of its parameter (E21), the case shows the first such argument of the call and both ranges. With
 /// as many arguments as parameters there is always such a case.
-#[tactic(auto, using(crate::proofs::ShownArguments::arguments_are_shown, crate::proofs::ShownArguments::unfit_have_one))]
+#[tactic(auto, using(crate::proofs::ShownExpressions::arguments_are_shown, crate::proofs::ShownExpressions::unfit_have_one))]
 pub fn arguments_are_shown()
     ensures first { ArgumentsAreShown }
     ensures always { UnfitHaveOne }
@@ -89,7 +88,7 @@ pub fn arguments_are_shown()
 
 /// Where a kept range may fail (E8, E9), the case shows the first variable that is not in it, and both ranges. There
 /// is always such a case.
-#[tactic(auto, using(crate::proofs::ShownArguments::kept_are_shown, crate::proofs::ShownArguments::unkept_have_one))]
+#[tactic(auto, using(crate::proofs::ShownExpressions::kept_are_shown, crate::proofs::ShownExpressions::unkept_have_one))]
 pub fn kept_are_shown()
     ensures first { KeptAreShown }
     ensures always { UnkeptHaveOne }

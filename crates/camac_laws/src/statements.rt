@@ -17,7 +17,7 @@ pub fn times_in_steps()
 {}
 
 /// In an accepted script the bounds of the services in its costs are those of the check, and the shares of each body add up to its bound.
-#[tactic(auto, using(crate::proofs::CostsBounds::costs_are_bounds))]
+#[tactic(auto, using(crate::proofs::Shares::costs_are_bounds))]
 pub fn costs_are_bounds()
     ensures { CostsAreBounds }
 {}

@@ -1,15 +1,29 @@
--- A run that is fed, what it has sent, and what it calls for.
-use Rattle.std.proofs.Common.{◌≡◌, ℕ, ◌+◌, ◌<◌, ◌≤◌, ◌^◌, ◌⊎◌, List, [], ◌∷◌, ◌++◌, length, Option, Some, None, refl, sym, ap, subst, ◌∙◌, append_assoc, append-nil, length-append, inl, inr, Bool, true, false, arith}
-use Rattle.std.specs.Prelude.{IfSome, IfNone, Result, Ok, Err, take, option_map, unwrap_or, is_none}
-use Rattle.camac_lang.specs.Tree.{Script}
+-- A run that is fed: what a text of answers gave, what was sent, and the whole play.
+use Rattle.std.proofs.Common.{◌≡◌, ℕ, ◌+◌, List, [], ◌∷◌, ◌++◌, length, Option, Some, None, refl, sym, ap, subst, ◌∙◌, append_assoc, append-nil, length-append, arith, ◌<◌, ◌≤◌, ◌^◌, ◌⊎◌, inl, inr, Bool, true, false}
+use Rattle.std.proofs.lemmas.List.{length-map}
+use Rattle.std.specs.Prelude.{unwrap_or, Ok, Err, IfSome, IfNone, Result, take, option_map, is_none, IfOk, IfErr}
+use Rattle.std.specs.Io.KnownBytes.{Appends}
 use Rattle.camac_branch.specs.Branch.{Answer}
 use Rattle.camac_branch.specs.Plan.{Layout}
 use Rattle.camac_branch.specs.declared.answer.Overrun.{Overrun}
+use Rattle.camac_answer.specs.Answers.{left_in, IsNext, window, IsOpen}
+use Rattle.camac_answer.specs.Reading.{Reading, Answered, no_more, with_answer}
+use Rattle.camac_answer.specs.declared.fault.AnswerFault.{AnswerFault}
+use Rattle.camac_play.specs.Told.{most_answers, is_begun, if_begun, asked_text, line_of, pieces_sent, open_text, called_for, report, report_by, played, last_line, ending_of, used_of, whole_report, ending_text, ending}
+use Rattle.camac_play.specs.declared.telling.Telling.{Telling}
+use Rattle.camac_play.specs.Play.{Gives, GivesFirst, with_taken, HasGiven, HasRead, ReadsNoMore, FailsAtWrite, Feeds, FeedsOver, Plays, PlaysOver}
+use Rattle.camac_play.specs.Sent.{Outputs, Sends, SendsPrefix, Sent, to_listing}
+use Rattle.camac_play.specs.declared.ending.Ending.{Ending}
+use Rattle.camac_play.specs.declared.ending.Ending.TheVariants as how
+use Rattle.camac_play.specs.declared.fault.PlayFault.{PlayFault}
+use Rattle.camac_play.specs.declared.fault.PlayFault.TheVariants as fault
+use Rattle.camac_play.specs.declared.telling.Telling.TheVariants.{Listing, Requests}
+use Rattle.camac_play.specs.Headline.{IsByHeadline, KeepsHeadline}
+use Rattle.camac_play.proofs.Sending.{count_of, count-append, pieces_sent-append, told_sent, answer_sent, answer_counts, answer_uses, uses-append, start, due, first_due, before_first, begun_then, begun_ended, asked_after, nothing_asked, begins, first_part, Sends-trans, SendsPrefix-longer, SendsPrefix-after, later_part, SendsBy, report_file, played_file}
+use Rattle.camac_lang.specs.Tree.{Script}
 use Rattle.camac_model.specs.Behaviour.{Behaviour, does, ends, stops, Piece, pieces, stop_of, Stop, short, overrun, wrong, more, events, events_in, uses}
 use Rattle.camac_model.specs.Run.{the_run}
-use Rattle.camac_answer.specs.Answers.{left_in, window, IsNext, IsOpen}
-use Rattle.camac_answer.specs.Reading.{Reading}
-use Rattle.camac_answer.specs.declared.fault.AnswerFault.{AnswerFault}
+use Rattle.camac_model.specs.Fine.{Bounds}
 use Rattle.camac_machine.specs.MachineState.{piece_of, Left}
 use Rattle.camac_machine.specs.declared.item.Item.{Item}
 use Rattle.camac_run.specs.Ends.{stop_in}
@@ -19,20 +33,61 @@ use Rattle.camac_run.specs.Runner.{RunnerState, GoesOn, Stops, rest, last_words_
 use Rattle.camac_run.specs.declared.progress.End.{End}
 use Rattle.camac_run.specs.declared.progress.End.TheVariants as end
 use Rattle.camac_run.specs.declared.progress.Wanted.{Wanted}
+use Rattle.camac_run.specs.Headline.{entry_of, run_events, event_file, RunsByHeadline}
+use Rattle.camac_run.specs.Requested.{RequestsAreSafe}
 use Rattle.camac_run.proofs.Holds.{pieces-after, stop_of-after, going_on_holds, told_all, wants_are_wanted}
-use Rattle.camac_play.specs.Play.{HasGiven, HasRead, ReadsNoMore, FailsAtWrite, Feeds, FeedsOver, with_taken}
-use Rattle.camac_play.specs.Sent.{Outputs, Sends, SendsPrefix, Sent, to_listing}
-use Rattle.camac_play.specs.Told.{most_answers, is_begun, if_begun, asked_text, line_of, pieces_sent, open_text, called_for, report, report_by, played, last_line, ending_of}
-use Rattle.camac_play.specs.declared.ending.Ending.{Ending}
-use Rattle.camac_play.specs.declared.ending.Ending.TheVariants as how
-use Rattle.camac_play.specs.declared.fault.PlayFault.{PlayFault}
-use Rattle.camac_play.specs.declared.fault.PlayFault.TheVariants as fault
-use Rattle.camac_play.specs.declared.telling.Telling.{Telling}
-use Rattle.camac_play.specs.declared.telling.Telling.TheVariants.{Listing, Requests}
-use Rattle.camac_play.proofs.Given.{given_none, given_next, given_end, given_fault, given_all, has_read, known}
-use Rattle.camac_play.proofs.Pieces.{count_of, count-append, pieces_sent-append, told_sent, answer_sent, answer_counts, answer_uses, uses-append}
-use Rattle.camac_play.proofs.Begun.{start, due, first_due, before_first, begun_then, begun_ended, asked_after, nothing_asked, begins, first_part}
-use Rattle.camac_play.proofs.Sending.{Sends-trans, SendsPrefix-longer, SendsPrefix-after, later_part}
+
+-- What a text of answers gave so far.
+
+pub given_none : (left : Option Reading) → HasGiven left left []
+given_none left whole e = (whole, e, refl)
+
+module _ (left now new : Option Reading) (taken : List Answer) (h : HasGiven left now taken) where
+  pub given_next : (a : Answer) → IsNext now (Ok (Some a)) new → HasGiven left new (taken ++ a ∷ [])
+  given_next a s whole e =
+      let g = h whole e in
+      let t : (rest : Reading) × (g.0 ≡ with_answer a rest) × (new ≡ Some rest) = rw g.1 at s in
+      (t.0, t.2, g.2 ∙ ap (with_taken taken) t.1 ∙ ap (λ (l : List Answer). record t.0 { answers = l }) (sym (append_assoc taken (a ∷ []) t.0.answers)))
+
+  all_given : (f : Option AnswerFault) → ((r : Reading) → now ≡ Some r → r ≡ no_more f) → Gives left (record { answers = taken; fault = f })
+  all_given f last whole e =
+      let g = h whole e in
+      g.2 ∙ ap (with_taken taken) (last g.0 g.1) ∙ ap (λ (l : List Answer). record { answers = l; fault = f }) (append-nil taken)
+
+  pub given_end : IsNext now (Ok None) new → Gives left (record { answers = taken; fault = None })
+  given_end s = all_given None (λ r e. rw e at s)
+
+  pub given_fault : (f : AnswerFault) → IsNext now (Err f) new → Gives left (record { answers = taken; fault = Some f })
+  given_fault f s = all_given (Some f) (λ r e. rw e at s)
+
+-- what is left, or nothing where that is not known
+abbrev pub known : Option Reading → Reading
+known now = unwrap_or now (no_more None)
+
+pub given_all : (left now : Option Reading) (taken : List Answer) → HasGiven left now taken → Gives left (with_taken taken (known now))
+given_all left now taken h whole e =
+    let g = h whole e in
+    g.2 ∙ ap (λ (o : Option Reading). with_taken taken (known o)) (sym g.1)
+
+pub given_first : (left now : Option Reading) (taken : List Answer) → HasGiven left now taken → GivesFirst left taken
+given_first left now taken h whole e = let g = h whole e in (g.0.answers, ap (λ (w : Reading). w.answers) g.2)
+
+pub has_read : (t : Telling) (left now : Option Reading) (text : Option (List ℕ)) (taken : List Answer) → HasGiven left now taken → now ≡ left_in (most_answers t) (length taken) text → HasRead t left text taken
+has_read t left now text taken h same = subst (λ (n : Option Reading). HasGiven left n taken) same h
+
+pub one_more : (n m : ℕ) (taken : List Answer) (answer : Answer) → m ≡ n + 1 → n ≡ length taken → m ≡ length (taken ++ answer ∷ [])
+one_more n m taken answer e f = let l = length-append taken (answer ∷ []) in omega (arith, e, f, l)
+
+pub left_at : (m k n : ℕ) (x y : Option (List ℕ)) → k ≡ n → y ≡ x → left_in m k x ≡ left_in m n y
+left_at m k n x y a b = ap (λ (j : ℕ). left_in m j x) a ∙ ap (λ (t : Option (List ℕ)). left_in m n t) (sym b)
+
+-- of the same limit, text and result
+pub next_is : (limit m n : ℕ) (x y z : Option (List ℕ)) (r s : Answered) → limit ≡ m → x ≡ y → r ≡ s → IsNext (left_in limit n x) r (left_in limit (n + 1) z) → IsNext (left_in m n y) s (left_in m (n + 1) z)
+next_is limit m n x y z r s a b c h =
+    subst (λ (q : Answered). IsNext (left_in m n y) q (left_in m (n + 1) z)) c (subst (λ (t : Option (List ℕ)). IsNext (left_in m n t) r (left_in m (n + 1) z)) b
+    (subst (λ (l : ℕ). IsNext (left_in l n x) r (left_in l (n + 1) z)) a h))
+
+-- A run that is fed, what it has sent, and what it calls for.
 
 -- no answer was taken; or what was sent is what those before the last one call for, and more
 abbrev pub Follows : Telling → Layout → Script → List Answer → List Sent → Type 0
@@ -395,3 +450,77 @@ module _ (t : Telling) (plan : Layout) (script : Script) (left now : Option Read
               later_part a c d (report t plan script fed.taken) due_now last' (report t plan script taken)
                   (subst (λ (l : List Sent). Sends a c l) begun_now sends_all) (SendsPrefix-longer c d text_sent (next' ++ open') prefix) whole,
             )))
+
+-- A whole play: the run, and the last line.
+
+-- what the end of the text may begin
+begun_more : (t : Telling) (answers : List Answer) (ended : Bool) (sent : List Sent) → (more' : List Sent) × (if_begun (is_begun t answers ended) sent ≡ if_begun (is_begun t answers false) sent ++ more')
+begun_more Requests answers ended sent = ([], sym (append-nil sent))
+begun_more Listing [] true sent = (sent, refl)
+begun_more Listing [] false sent = ([], refl)
+begun_more Listing (x ∷ answers) ended sent = ([], sym (append-nil sent))
+
+module _ (t : Telling) (plan : Layout) (script : Script) (left : Option Reading) (text : Option (List ℕ)) (a c d : Outputs) (e : Ending) (n : ℕ) where
+  -- the run came to its last line
+  finishes : (r : Result Ending PlayFault) → n < 2 ^ 32 → Feeds t plan script left text a c (Ok (e, n)) → IfOk r (λ x. x ≡ e) → IfErr r (λ f. f ≡ fault.Write) → SendsBy c d r (to_listing (ending_text e n)) → Plays t plan script left text a d r
+  finishes (Ok x) few (r, gives, same, beyond, count, sends) is write sent =
+      let line : to_listing (ending_text e n) ≡ to_listing (last_line plan script r) = ap (λ (y : Ending). to_listing (ending_text y n)) same ∙ ap (λ (k : ℕ). to_listing (ending_text (ending plan script r) k)) count in (
+        r,
+        gives,
+        is ∙ same,
+        subst (λ (y : Ending). ReadsNoMore t plan script left text y) (sym is) beyond,
+        omega (arith, count, few),
+        Sends-trans a c d (whole_report t plan script r) (to_listing (last_line plan script r)) sends (subst (λ (l : List Sent). Sends c d l) line sent),
+      )
+  finishes (Err f) few (r, gives, same, beyond, count, sends) is write sent =
+      let line : to_listing (ending_text e n) ≡ to_listing (last_line plan script r) = ap (λ (y : Ending). to_listing (ending_text y n)) same ∙ ap (λ (k : ℕ). to_listing (ending_text (ending plan script r) k)) count in
+      let begun' = begun_more t r.answers (is_none r.fault) (start ++ called_for t plan script r.answers) in
+      rw write (inr (
+        r,
+        gives,
+        subst (λ (y : Ending). ReadsNoMore t plan script left text y) same beyond,
+        later_part a c d (report t plan script r.answers) begun'.0 (to_listing (last_line plan script r)) (played t plan script r)
+            (subst (λ (l : List Sent). Sends a c l) begun'.1 sends) (subst (λ (l : List Sent). SendsPrefix c d l) line sent) (ap (λ (l : List Sent). l ++ to_listing (last_line plan script r)) begun'.1),
+      ))
+
+-- The headline, from what was sent.
+module _ (t : Telling) (plan : Layout) (script : Script) (ks : List Bounds) (left : Option Reading) (text : Option (List ℕ)) (law : RunsByHeadline plan script ks) (safe : RequestsAreSafe plan script) where
+  by_headline : (answers : List Answer) → length (events (the_run plan script answers)) < 2 ^ 32 → IsByHeadline plan script ks answers (event_file plan script answers)
+  by_headline answers few =
+      let lengths : length (run_events plan script answers) ≡ length (events (the_run plan script answers)) = length-map (events (the_run plan script answers)) entry_of in
+      (law answers (omega (arith, lengths, few)), safe (used_of plan script answers))
+
+  pub keeps_headline : (a b : Outputs) (r : Result Ending PlayFault) → Plays t plan script left text a b r → KeepsHeadline t plan script ks left a.events b.events r
+  keeps_headline a b (Ok e) (r, gives, same, beyond, few, sends) = (
+    r,
+    event_file plan script r.answers,
+    gives,
+    subst (λ (bytes : List ℕ). Appends a.events b.events bytes) (played_file t plan script r) sends.events,
+    by_headline r.answers few,
+  )
+  keeps_headline a b (Err fault.Write) plays = tt
+  keeps_headline a b (Err fault.Read) (taken, before, read, open', few, sends) = (
+    taken,
+    event_file plan script taken,
+    given_first left (left_in (most_answers t) (length taken) before) taken read,
+    subst (λ (bytes : List ℕ). Appends a.events b.events bytes) (report_file t plan script taken) sends.events,
+    by_headline taken few,
+  )
+
+-- The same over streams that may hold what they are given.
+module _ (gathers : Bool) (t : Telling) (plan : Layout) (script : Script) (left : Option Reading) (text : Option (List ℕ)) where
+  pub stops_over : (a c : Outputs) (f : PlayFault) (r : Result Ending PlayFault) → r ≡ Err f → FeedsOver gathers t plan script left text a c (Err f) → PlaysOver gathers t plan script left text a c r
+  stops_over a c f r is (inl stopped) = rw is (inl stopped)
+  stops_over a c f r is (inr (write, holds)) =
+      let same : f ≡ fault.Write = cc in
+      inr (is ∙ ap (λ (x : PlayFault). Err x) same, holds)
+
+  pub finishes_over : (a c d : Outputs) (e : Ending) (n : ℕ) (r : Result Ending PlayFault) → n < 2 ^ 32 → FeedsOver gathers t plan script left text a c (Ok (e, n)) → IfOk r (λ x. x ≡ e) → IfErr r (λ f. f ≡ fault.Write)
+      → SendsBy c d r (to_listing (ending_text e n)) → PlaysOver gathers t plan script left text a d r
+  finishes_over a c d e n r few (inl feeds) is write sent = inl (finishes t plan script left text a c d e n r few feeds is write sent)
+  finishes_over a c d e n r few (inr (bad, holds)) is write sent = absurd cc
+
+  pub headline_over : (ks : List Bounds) → RunsByHeadline plan script ks → RequestsAreSafe plan script
+      → (a b : Outputs) (r : Result Ending PlayFault) → PlaysOver gathers t plan script left text a b r → KeepsHeadline t plan script ks left a.events b.events r
+  headline_over ks law safe a b r (inl plays) = keeps_headline t plan script ks left text law safe a b r plays
+  headline_over ks law safe a b r (inr (write, holds)) = rw write tt

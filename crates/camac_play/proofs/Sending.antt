@@ -1,10 +1,33 @@
--- Texts one after another over two writers.
-use Rattle.std.proofs.Common.{◌≡◌, ℕ, ◌<◌, List, [], ◌∷◌, ◌++◌, length, Option, Some, None, refl, sym, ap, subst, ◌∙◌, append_assoc, append-nil, length-append, arith}
-use Rattle.std.specs.Prelude.{Result, Ok, Err, MatchResult}
-use Rattle.std.specs.Io.KnownBytes.{Appends, Keeps}
+-- What is sent over two writers: texts, pieces of the run, and the event file from its beginning.
+use Rattle.std.proofs.Common.{◌≡◌, ℕ, ◌<◌, List, [], ◌∷◌, ◌++◌, length, Option, Some, None, refl, sym, ap, subst, ◌∙◌, append_assoc, append-nil, length-append, arith, ◌+◌, map, Bool, true, false}
 use Rattle.std.proofs.KnownBytes.{Appends-trans, Appends-kept}
+use Rattle.std.proofs.lemmas.Bool.{ne_eqb}
+use Rattle.std.specs.Prelude.{Result, Ok, Err, MatchResult, IfSome, IfNone, unwrap_or, is_none}
+use Rattle.std.specs.Io.KnownBytes.{Appends, Keeps}
 use Rattle.camac_word.specs.Writing.{AppendsPrefix, Writes}
 use Rattle.camac_play.specs.Sent.{Sent, listed, recorded, to_listing, to_events, listing_of, events_of, Outputs, Sends, SendsPrefix, SendsLastPart}
+use Rattle.camac_play.specs.Told.{asked_text, item_line, line_of, record_text, number_after, piece_sent, pieces_sent, event_record, is_begun, begins_after, if_begun, called_for, report, open_text, whole_report, last_line}
+use Rattle.camac_play.specs.declared.telling.Telling.{Telling}
+use Rattle.camac_play.specs.declared.telling.Telling.TheVariants.{Listing, Requests}
+use Rattle.camac_play.specs.Headline.{ReportSendsEventFile, PlayedSendsEventFile}
+use Rattle.camac_lang.specs.Tree.{Script}
+use Rattle.camac_model.specs.Behaviour.{Event, Piece, demanded, cycled, lock_taken, lock_released, event_left, event_in, events_in, uses, piece_uses, pieces}
+use Rattle.camac_model.specs.Run.{the_run}
+use Rattle.camac_report.specs.Items.{unlock_text, unlock_texts, request_text, live_text}
+use Rattle.camac_machine.specs.declared.item.Item.{Item}
+use Rattle.camac_machine.specs.declared.item.Item.TheVariants as item
+use Rattle.camac_machine.specs.MachineState.{piece_of, Left}
+use Rattle.camac_run.specs.Operation.{operation_of}
+use Rattle.camac_run.specs.declared.progress.Wanted.{Wanted}
+use Rattle.camac_run.specs.declared.progress.Wanted.TheVariants as wanted
+use Rattle.camac_run.specs.Holds.{event_pieces, told_after}
+use Rattle.camac_run.specs.Headline.{entry_of, event_file}
+use Rattle.camac_branch.specs.Branch.{Answer}
+use Rattle.camac_branch.specs.Plan.{Layout}
+use Rattle.camac_event.specs.Spelling.{header, records_from}
+use Rattle.camac_event.specs.declared.event.Version.TheVariants.{Two}
+
+-- Texts one after another over two writers.
 
 -- all of it at `Ok`, and else a prefix
 abbrev pub SendsBy : {T E : Type 0} → Outputs → Outputs → Result T E → List Sent → Type 0
@@ -141,3 +164,246 @@ later_part a b c first more' last whole p (prefix, rest, split, some, q) e = (
   some,
   subst (λ (l : List Sent). Sends a c l) (append_assoc first more' prefix) (Sends-trans a b c (first ++ more') prefix p q),
 )
+
+-- What an answer did, as pieces of the run, and what is sent of them.
+
+abbrev pub count_of : List Piece → ℕ
+count_of ps = length (events_in ps)
+
+pub count-append : (ps qs : List Piece) → count_of (ps ++ qs) ≡ count_of ps + count_of qs
+count-append [] qs = omega arith
+count-append (p ∷ ps) qs =
+    length-append (event_in p) (events_in (ps ++ qs))
+    ∙ ap (λ (n : ℕ). length (event_in p) + n) (count-append ps qs)
+    ∙ omega (arith, length-append (event_in p) (events_in ps))
+
+numbered : (n : ℕ) (p : Piece) → number_after n p ≡ n + length (event_in p)
+numbered n (demanded k v) = omega arith
+numbered n (cycled at f d r w) = omega arith
+numbered n (lock_taken c w) = omega arith
+numbered n (lock_released c) = omega arith
+numbered n (event_left e) = omega arith
+
+pub pieces_sent-append : (line : Piece → List ℕ) (n : ℕ) (ps qs : List Piece) → pieces_sent line n (ps ++ qs) ≡ pieces_sent line n ps ++ pieces_sent line (n + count_of ps) qs
+pieces_sent-append line n [] qs =
+    let same : n ≡ n + 0 = omega arith in
+    ap (λ (k : ℕ). pieces_sent line k qs) same
+pieces_sent-append line n (p ∷ ps) qs =
+    let sent = piece_sent line n p in
+    let k = number_after n p in
+    let same : k + count_of ps ≡ n + count_of (p ∷ ps) = omega (arith, numbered n p, length-append (event_in p) (events_in ps)) in
+    ap (λ (l : List Sent). sent ++ l) (pieces_sent-append line k ps qs ∙ ap (λ (j : ℕ). pieces_sent line k ps ++ pieces_sent line j qs) same)
+    ∙ sym (append_assoc sent (pieces_sent line k ps) (pieces_sent line (n + count_of (p ∷ ps)) qs))
+
+-- an item leaves no event
+quiet_record : (n : ℕ) (told : Item) → record_text n (piece_of told) ≡ []
+quiet_record n (item.Cycle d) = refl
+quiet_record n (item.Lock c w) = refl
+quiet_record n (item.Unlock c) = refl
+quiet_record n (item.Demand p v) = refl
+
+quiet_number : (n : ℕ) (told : Item) → number_after n (piece_of told) ≡ n
+quiet_number n (item.Cycle d) = refl
+quiet_number n (item.Lock c w) = refl
+quiet_number n (item.Unlock c) = refl
+quiet_number n (item.Demand p v) = refl
+
+quiet_event : (told : Item) → length (event_in (piece_of told)) ≡ 0
+quiet_event (item.Cycle d) = refl
+quiet_event (item.Lock c w) = refl
+quiet_event (item.Unlock c) = refl
+quiet_event (item.Demand p v) = refl
+
+-- the item of an answer is the operation that was asked for
+asked_is : (told : Item) (o : Wanted) → operation_of (piece_of told) ≡ Some o → (live_text (piece_of told) ≡ request_text o) × (piece_uses (piece_of told) ≡ 1)
+asked_is (item.Cycle d) o h = (ap (λ x. request_text (unwrap_or x wanted.Demand)) h, refl)
+asked_is (item.Lock c w) o h = (ap (λ x. request_text (unwrap_or x wanted.Demand)) h, refl)
+asked_is (item.Unlock c) o h = cc
+asked_is (item.Demand p v) o h = (ap (λ x. request_text (unwrap_or x wanted.Demand)) h, refl)
+
+-- its line is what was asked and what is told
+line_splits : (t : Telling) (script : Script) (told : Item) (o : Wanted) → operation_of (piece_of told) ≡ Some o → line_of t script (piece_of told) ≡ asked_text t o ++ item_line t script (piece_of told)
+line_splits Listing script told o h = refl
+line_splits Requests script told o h = (asked_is told o h).0 ∙ sym (append-nil (request_text o))
+
+releases : (t : Telling) (script : Script) (k : ℕ) → line_of t script (lock_released k) ≡ unlock_text k
+releases Listing script k = refl
+releases Requests script k = refl
+
+leaves : (t : Telling) (script : Script) (e : Event) → line_of t script (event_left e) ≡ []
+leaves Listing script e = refl
+leaves Requests script e = refl
+
+module _ (t : Telling) (script : Script) where
+  abbrev line : Piece → List ℕ
+  line = line_of t script
+
+  event_sent : (n : ℕ) (event : Option Left) (words : List ℕ) → IfSome event (λ e. e.0 ≡ n) → pieces_sent line n (event_pieces event words) ≡ to_events (event_record event words)
+  event_sent n None words h = refl
+  event_sent n (Some e) words h =
+      let left : Event = record { bit = e.1; cycles = e.2.cycles; missed = e.2.missed; words = words } in
+      append-nil (piece_sent line n (event_left left))
+      ∙ ap (λ (l : List ℕ). to_listing l ++ to_events (record_text n (event_left left))) (leaves t script left)
+      ∙ ap (λ (k : ℕ). to_events (event_record (Some (k, e.1, e.2)) words)) (sym h)
+
+  released_sent : (n : ℕ) (ks : List ℕ) (ps : List Piece) → pieces_sent line n (map lock_released ks ++ ps) ≡ to_listing (unlock_texts ks) ++ pieces_sent line n ps
+  released_sent n [] ps = refl
+  released_sent n (k ∷ ks) ps =
+      let more' = pieces_sent line n ps in
+      ap (λ (l : List ℕ). (to_listing l ++ []) ++ pieces_sent line n (map lock_released ks ++ ps)) (releases t script k)
+      ∙ ap (λ (l : List Sent). (to_listing (unlock_text k) ++ []) ++ l) (released_sent n ks ps)
+      ∙ ap (λ (l : List Sent). l ++ (to_listing (unlock_texts ks) ++ more')) (append-nil (to_listing (unlock_text k)))
+      ∙ sym (append_assoc (to_listing (unlock_text k)) (to_listing (unlock_texts ks)) more')
+      ∙ ap (λ (l : List Sent). l ++ more') (sym (to_listing-append (unlock_text k) (unlock_texts ks)))
+
+  first_sent : (n : ℕ) (told : Item) (ps : List Piece) → pieces_sent line n (piece_of told ∷ ps) ≡ to_listing (line (piece_of told)) ++ pieces_sent line n ps
+  first_sent n told ps =
+      let words = to_listing (line (piece_of told)) in
+      ap (λ (k : ℕ). piece_sent line n (piece_of told) ++ pieces_sent line k ps) (quiet_number n told)
+      ∙ ap (λ (l : List ℕ). (words ++ to_events l) ++ pieces_sent line n ps) (quiet_record n told)
+      ∙ ap (λ (l : List Sent). l ++ pieces_sent line n ps) (append-nil words)
+
+  -- what is sent of an answer's pieces, after what asked for it
+  abbrev pub told_sent : (told : Item) (ks : List ℕ) (event : Option Left) (words : List ℕ) → List Sent
+  told_sent told ks event words = to_listing (item_line t script (piece_of told) ++ unlock_texts ks) ++ to_events (event_record event words)
+
+  pub answer_sent : (n : ℕ) (o : Wanted) (told : Item) (ks : List ℕ) (event : Option Left) (words : List ℕ) → operation_of (piece_of told) ≡ Some o → IfSome event (λ e. e.0 ≡ n)
+      → pieces_sent line n (piece_of told ∷ told_after ks event words) ≡ to_listing (asked_text t o) ++ told_sent told ks event words
+  answer_sent n o told ks event words is h =
+      let asked = to_listing (asked_text t o) in
+      let item' : List ℕ = item_line t script (piece_of told) in
+      let free = to_listing (unlock_texts ks) in
+      let left = to_events (event_record event words) in
+      first_sent n told (told_after ks event words)
+      ∙ ap (λ (l : List Sent). to_listing (line (piece_of told)) ++ l) (released_sent n ks (event_pieces event words) ∙ ap (λ (l : List Sent). free ++ l) (event_sent n event words h))
+      ∙ ap (λ (l : List Sent). l ++ (free ++ left)) (ap to_listing (line_splits t script told o is) ∙ to_listing-append (asked_text t o) item')
+      ∙ append_assoc asked (to_listing item') (free ++ left)
+      ∙ ap (λ (l : List Sent). asked ++ l) (sym (append_assoc (to_listing item') free left) ∙ ap (λ (l : List Sent). l ++ left) (sym (to_listing-append item' (unlock_texts ks))))
+
+released_quiet : (ks : List ℕ) (ps : List Piece) → count_of (map lock_released ks ++ ps) ≡ count_of ps
+released_quiet [] ps = refl
+released_quiet (k ∷ ks) ps = released_quiet ks ps
+
+event_counts : (event : Option Left) (words : List ℕ) (n m : ℕ) → IfNone event (m ≡ n) → IfSome event (λ e. m ≡ e.0) → IfSome event (λ e. e.0 ≡ n + 1) → m ≡ n + count_of (event_pieces event words)
+event_counts None words n m a b h = omega (arith, a)
+event_counts (Some e) words n m a b h = omega (arith, b, h)
+
+-- the number of events after an answer
+pub answer_counts : (told : Item) (ks : List ℕ) (event : Option Left) (words : List ℕ) (n m : ℕ) → IfNone event (m ≡ n) → IfSome event (λ e. m ≡ e.0) → IfSome event (λ e. e.0 ≡ n + 1)
+    → m ≡ n + count_of (piece_of told ∷ told_after ks event words)
+answer_counts told ks event words n m a b h =
+    omega (arith, event_counts event words n m a b h, released_quiet ks (event_pieces event words), quiet_event told, length-append (event_in (piece_of told)) (events_in (told_after ks event words)))
+
+pub uses-append : (ps qs : List Piece) → uses (ps ++ qs) ≡ uses ps + uses qs
+uses-append [] qs = omega arith
+uses-append (p ∷ ps) qs = let m = uses-append ps qs in omega (arith, m)
+
+later_uses : (ks : List ℕ) (event : Option Left) (words : List ℕ) → uses (told_after ks event words) ≡ 0
+later_uses [] None words = refl
+later_uses [] (Some e) words = refl
+later_uses (k ∷ ks) event words = let m = later_uses ks event words in omega (arith, m)
+
+-- an answer is used once
+pub answer_uses : (o : Wanted) (told : Item) (ks : List ℕ) (event : Option Left) (words : List ℕ) → operation_of (piece_of told) ≡ Some o → uses (piece_of told ∷ told_after ks event words) ≡ 1
+answer_uses o told ks event words is = let one = (asked_is told o is).1 in let none = later_uses ks event words in omega (arith, one, none)
+
+-- What begins the event file, and when.
+
+abbrev pub start : List Sent
+start = to_events (header Two)
+
+-- the header, where it is due at first, and where it is due after so many answers
+abbrev pub first_due : Telling → List Sent
+first_due t = to_events (if_begun (is_begun t [] false) (header Two))
+
+abbrev pub due : Telling → ℕ → List Sent
+due t given = to_events (if_begun (begins_after t given) (header Two))
+
+pub begun_then : (t : Telling) (xs ys : List Answer) (a : Answer) (ended : Bool) → is_begun t (xs ++ a ∷ ys) ended ≡ true
+begun_then Requests xs ys a ended = refl
+begun_then Listing [] ys a ended = refl
+begun_then Listing (x ∷ xs) ys a ended = refl
+
+pub begun_ended : (t : Telling) (xs : List Answer) → is_begun t xs true ≡ true
+begun_ended Requests xs = refl
+begun_ended Listing [] = refl
+begun_ended Listing (x ∷ xs) = refl
+
+-- a listing asks for nothing
+pub nothing_asked : (t : Telling) (o : Wanted) → t ≡ Listing → to_listing (asked_text t o) ≡ []
+nothing_asked Listing o is = refl
+nothing_asked Requests o is = cc
+
+-- what asks for the operation comes after all that was sent
+pub asked_after : (t : Telling) (taken : List Answer) (o : Wanted) (sent : List Sent)
+    → if_begun (is_begun t taken false) (start ++ (sent ++ to_listing (asked_text t o))) ≡ if_begun (is_begun t taken false) (start ++ sent) ++ to_listing (asked_text t o)
+asked_after Requests taken o sent = sym (append_assoc start sent (to_listing (asked_text Requests o)))
+asked_after Listing [] o sent = refl
+asked_after Listing (x ∷ taken) o sent = sym (append_assoc start sent [])
+
+not_due : (x : Answer) (xs : List Answer) → due Listing (length (x ∷ xs)) ≡ []
+not_due x xs = ap (λ (yes : Bool). to_events (if_begun yes (header Two))) (ne_eqb (length (x ∷ xs)) 0 (λ z. omega (arith, z)))
+
+-- the header comes before all else
+pub begins : (t : Telling) (taken : List Answer) (called : List Sent) → (t ≡ Listing → taken ≡ [] → called ≡ [])
+    → if_begun (is_begun t taken true) (start ++ called) ≡ if_begun (is_begun t taken false) (start ++ called) ++ due t (length taken)
+begins Requests taken called none = sym (append-nil (start ++ called))
+begins Listing [] called none = ap (λ (l : List Sent). start ++ l) (none refl refl) ∙ append-nil start
+begins Listing (x ∷ taken) called none = sym (append-nil (start ++ called)) ∙ ap (λ (l : List Sent). (start ++ called) ++ l) (sym (not_due x taken))
+
+no_part : {T : Type 0} (c d : Outputs) → SendsPrefix c d [] → T
+no_part c d (prefix, rest, split, some, p) = absurd (omega (arith, some, ap length split, length-append prefix rest))
+
+-- a prefix of the header was written, which was due: nothing else was sent
+pub first_part : (t : Telling) (plan : Layout) (script : Script) (taken : List Answer) (a c d : Outputs) (whole tail : List Sent) → whole ≡ start ++ tail → Sends a c (report t plan script taken)
+    → SendsPrefix c d (due t (length taken)) → SendsLastPart a d (report t plan script taken) whole
+first_part Requests plan script taken a c d whole tail e sends prefix = no_part c d prefix
+first_part Listing plan script [] a c d whole tail e sends prefix = last_part a c d [] (start ++ tail) whole sends (SendsPrefix-longer c d start tail prefix) e
+first_part Listing plan script (x ∷ taken) a c d whole tail e sends prefix = no_part c d (subst (λ (l : List Sent). SendsPrefix c d l) (not_due x taken) prefix)
+
+-- a prefix of the header was written before the first request
+pub before_first : (t : Telling) (plan : Layout) (script : Script) (a b : Outputs) → SendsPrefix a b (first_due t) → SendsPrefix a b (report t plan script [])
+before_first Listing plan script a b prefix = no_part a b prefix
+before_first Requests plan script a b prefix = SendsPrefix-longer a b start (called_for Requests plan script []) prefix
+
+-- What is sent to the event file is the spelling of the run's events.
+
+piece_records : (line : Piece → List ℕ) (n : ℕ) (p : Piece) → events_of (piece_sent line n p) ≡ record_text n p
+piece_records line' n p =
+    let line = line' p in
+    let bytes = record_text n p in
+    events_of-append (to_listing line) (to_events bytes) ∙ ap (λ (l : List ℕ). l ++ events_of (to_events bytes)) (events_listed line) ∙ events_recorded bytes
+
+record_first : (n : ℕ) (p : Piece) (ps : List Piece) → record_text n p ++ records_from (number_after n p) (map entry_of (events_in ps)) ≡ records_from n (map entry_of (events_in (p ∷ ps)))
+record_first n (demanded p v) ps = refl
+record_first n (cycled at f d r w) ps = refl
+record_first n (lock_taken c w) ps = refl
+record_first n (lock_released c) ps = refl
+record_first n (event_left e) ps = refl
+
+records_sent : (line : Piece → List ℕ) (n : ℕ) (ps : List Piece) → events_of (pieces_sent line n ps) ≡ records_from n (map entry_of (events_in ps))
+records_sent line n [] = refl
+records_sent line n (p ∷ ps) =
+    let rest = pieces_sent line (number_after n p) ps in
+    events_of-append (piece_sent line n p) rest
+    ∙ ap (λ (l : List ℕ). l ++ events_of rest) (piece_records line n p)
+    ∙ ap (λ (l : List ℕ). record_text n p ++ l) (records_sent line (number_after n p) ps)
+    ∙ record_first n p ps
+
+-- a line adds nothing
+pub with_line : (sent : List Sent) (line : List ℕ) → events_of (sent ++ to_listing line) ≡ events_of sent
+with_line sent line = events_of-append sent (to_listing line) ∙ ap (λ (l : List ℕ). events_of sent ++ l) (events_listed line) ∙ append-nil (events_of sent)
+
+begun_file : (yes : Bool) (t : Telling) (plan : Layout) (script : Script) (answers : List Answer) → events_of (if_begun yes (to_events (header Two) ++ called_for t plan script answers)) ≡ if_begun yes (event_file plan script answers)
+begun_file false t plan script answers = refl
+begun_file true t plan script answers =
+    let ps = pieces (the_run plan script answers) in
+    events_of-append (to_events (header Two)) (called_for t plan script answers)
+    ∙ ap (λ (l : List ℕ). l ++ events_of (called_for t plan script answers)) (events_recorded (header Two))
+    ∙ ap (λ (l : List ℕ). header Two ++ l) (with_line (pieces_sent (line_of t script) 1 ps) (open_text t plan script answers) ∙ records_sent (line_of t script) 1 ps)
+
+pub report_file : ReportSendsEventFile
+report_file t plan script answers = begun_file (is_begun t answers false) t plan script answers
+
+pub played_file : PlayedSendsEventFile
+played_file t plan script r = with_line (whole_report t plan script r) (last_line plan script r) ∙ begun_file (is_begun t r.answers (is_none r.fault)) t plan script r.answers

@@ -12,9 +12,7 @@ use Rattle.camac_answer.specs.declared.answers.TheConstants.{FILE_ANSWERS, LIVE_
 use Rattle.camac_answer.specs.declared.fault.AnswerFault.{AnswerFault}
 use Rattle.camac_lines.specs.declared.refusal.Refusal.TheVariants as refusal
 use Rattle.camac_lines.specs.Refusal.{refusal_text}
-use Rattle.camac_report.specs.Ends.{end_text}
-use Rattle.camac_report.specs.Items.{item_text}
-use Rattle.camac_report.specs.Requests.{request_text, live_text}
+use Rattle.camac_report.specs.Items.{end_text, item_text, request_text, live_text}
 use Rattle.camac_run.specs.Headline.{entry_of}
 use Rattle.camac_machine.specs.MachineState.{Left}
 use Rattle.camac_run.specs.Ends.{stop_in}

@@ -1,7 +1,7 @@
 // The last line of a run.
 
 ghost use Rattle.std.specs.Prelude.{◌≡◌, ◌≤◌, ◌+◌, ◌++◌, length, codes, decimal};
-ghost use Rattle.camac_report.specs.Ends.{end_text};
+ghost use Rattle.camac_report.specs.Items.{end_text};
 ghost use Rattle.camac_run.specs.Ends.{stop_in};
 
 use camac_branch::Overrun;

@@ -2,8 +2,7 @@
 
 ghost use Rattle.std.specs.Prelude.{◌≡◌, ◌≤◌, ◌+◌, ◌++◌, length};
 ghost use Rattle.camac_branch.specs.Address.{address};
-ghost use Rattle.camac_report.specs.Items.{unlock_texts};
-ghost use Rattle.camac_report.specs.Requests.{asked_text, request_text};
+ghost use Rattle.camac_report.specs.Items.{unlock_texts, asked_text, request_text};
 
 use crate::item::unlocks_in;
 use camac_branch::Command;

@@ -7,7 +7,7 @@ use Rattle.std.proofs.Math.Nat.{le_trans}
 use Rattle.std.specs.Prelude.{nat_eq, slice_get, if◌then◌else◌, nat_le, option_map}
 use Rattle.camac_response_times.specs.declared.source.Source.{Source}
 use Rattle.camac_response_times.specs.Response.{calls_within, called_within, is_up_to, before, stretch_wants, IsEnough, period, start_wants, is_below, StartsWithin}
-use Rattle.camac_response_times.proofs.Wanted.{part_le, calls_mono, before_most}
+use Rattle.camac_response_times.proofs.Rounds.{part_le, calls_mono, before_most}
 use Rattle.camac_response.specs.Stretch.{one_more, Stretch, no_stretch, called, calling, longer, stretch_after, IsNoLonger, InTime, AnswersBy}
 use Rattle.camac_response.specs.Laws.{StretchesEnd, AnswersInTime}
 use Rattle.camac_model.specs.Behaviour.{Piece, demanded, cycled, lock_taken, lock_released, event_left, Behaviour, does, ends, stops, Stop}

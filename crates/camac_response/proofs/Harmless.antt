@@ -36,9 +36,8 @@ use Rattle.camac_commands.specs.Commands.{is_inside, lies_in, is_told, IsListed}
 use Rattle.camac_response_times.specs.declared.source.Source.{Source}
 use Rattle.camac_response_times.specs.Response.{is_up_to}
 use Rattle.camac_response.specs.Lams.{Clears, Lams, lams_of, of_lam, clears, is_lam_call, is_crate_call, enabled_by, Book, book_after, NoneHidden, IsAskedAgain, ServesWell, first_page, plan_clears, same_station, same_address, may_clear}
-use Rattle.camac_response.specs.Served.{hides, IsHarmless, Harmless, HarmlessServe, ServesItself, ServicesServe}
+use Rattle.camac_response.specs.Reach.{hides, IsHarmless, Harmless, HarmlessServe, ServesItself, ServicesServe, must_be_at, spares_at, must_clear, may_call_lam, may_call_crate, may_be_at, clears_at, may_clear_by_plan, could_clear, could_hide, AreCareful, DecidedServe}
 use Rattle.camac_response.specs.Laws.{AreSources}
-use Rattle.camac_response.specs.Reach.{must_be_at, spares_at, must_clear, may_call_lam, may_call_crate, may_be_at, clears_at, may_clear_by_plan, could_clear, could_hide, AreCareful, DecidedServe}
 use Rattle.camac_response.specs.Twice.{up_to_two, count}
 use Rattle.camac_response.proofs.Lams.{or_false, or_first, same_at}
 use Rattle.camac_rules.specs.Known.{Region}

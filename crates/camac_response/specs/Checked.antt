@@ -1,5 +1,5 @@
--- The services of a checked script as sources of demands, at told rates.
-use Rattle.std.specs.Prelude.{◌≡◌, ℕ, zero, suc, Bool, true, List, [], ◌∷◌, length, Option, Some, None, option_map, unwrap_or, slice_get, IsTrue, if◌then◌else◌}
+-- The services of a checked script as sources of demands, at told rates; and the numbers that are asked for.
+use Rattle.std.specs.Prelude.{◌≡◌, ℕ, zero, suc, Bool, true, List, [], ◌∷◌, length, Option, Some, None, option_map, unwrap_or, slice_get, IsTrue, if◌then◌else◌, ◌<◌, ◌≤◌}
 use Rattle.std.specs.List.{list_any}
 use Rattle.std.specs.Str.{bytes_eq}
 use Rattle.camac_lang.specs.Scope.{is_well_formed}
@@ -24,6 +24,9 @@ use Rattle.camac_response.specs.Laws.{lowest_watch}
 use Rattle.camac_response.specs.Modules.{Raises, Pauses, at_start, waits_watch}
 use Rattle.camac_response.specs.Lams.{Moods, plan_clears, lams_of, ModulesKeep}
 use Rattle.camac_response.specs.Unkept.{unkept_of, is_kept_to}
+use Rattle.camac_response_times.specs.declared.search.Response.{Response}
+use Rattle.camac_response_times.specs.Found.{response_at}
+use Rattle.camac_response.specs.declared.unkept.Unkept.{Unkept}
 
 -- a service has the name of its LAM
 abbrev pub service_name : Script → ℕ → Text
@@ -88,3 +91,16 @@ Responds c = (every : List Setting) (ts : List Source) → AreTold c every ts �
 
 unfoldable pub CheckedRespond : Type 0
 CheckedRespond = (c : CheckedScript) → IsPlan c.plan → IsLinked (linked_of c) → IsTrue (is_well_formed c.script) → IsChecked c → Responds c
+
+-- The numbers that are asked for.
+
+-- where a number is asked for, the service has a response and has ended by then
+abbrev pub IsKept : (within : Option ℕ) → Option Response → Type 0
+IsKept None r = Unit {0}
+IsKept (Some most) None = ⊥
+IsKept (Some most) (Some r) = r.end ≤ most
+
+-- the script does its part, and each number that is asked for is kept
+pub record AreKept (script : Script) (within : List Setting) (us : List Unkept) (ts : List Source) : Type 0 where
+  pub served : us ≡ []
+  pub each : (i : ℕ) → i < length ts → IsKept (told_for within (service_name script i)) (response_at ts i)

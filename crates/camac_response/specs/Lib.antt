@@ -2,10 +2,8 @@ pub mod Stretch
 pub mod Modules
 pub mod Lams
 pub mod Laws
-pub mod Served
 pub mod Reach
 pub mod Unkept
 pub mod Twice
 pub mod Checked
 pub mod Lines
-pub mod Kept

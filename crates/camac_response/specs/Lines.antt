@@ -8,6 +8,7 @@ use Rattle.camac_response_times.specs.declared.setting.Setting.{Setting}
 use Rattle.camac_response_times.specs.declared.source.Source.{Source}
 use Rattle.camac_response_times.specs.Found.{response_at}
 use Rattle.camac_response_times.specs.Setting.{told_for}
+use Rattle.camac_response.specs.declared.lines.TheConstants.{CLEARED_BY, HIDDEN_BY, NOT_CLEARED}
 use Rattle.camac_response.specs.declared.unkept.Unkept.{Unkept}
 use Rattle.camac_response.specs.declared.unkept.Why.{Why}
 use Rattle.camac_response.specs.declared.unkept.Why.TheVariants.{NotCleared, ClearedBy, HiddenBy}
@@ -60,9 +61,9 @@ bit_text script within us twice ts bit = unwrap_or (option_map (service_text scr
 
 -- what the script does not do
 abbrev pub why_text : Script → Why → List ℕ
-why_text script NotCleared = codes "does not clear its look-at-me"
-why_text script (ClearedBy i) = codes "cleared by " ++ service_name script i
-why_text script (HiddenBy i) = codes "hidden by " ++ service_name script i
+why_text script NotCleared = NOT_CLEARED.now
+why_text script (ClearedBy i) = CLEARED_BY.now ++ service_name script i
+why_text script (HiddenBy i) = HIDDEN_BY.now ++ service_name script i
 
 abbrev pub unkept_line : Script → Unkept → List ℕ
 unkept_line script u =

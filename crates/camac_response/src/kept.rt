@@ -1,8 +1,7 @@
 // Whether services end within the numbers that are asked for.
 
 ghost use Rattle.std.specs.Prelude.{◌≡◌, ◌<◌, ◌↔◌, IsTrue, length};
-ghost use Rattle.camac_response.specs.Kept.{AreKept, IsKept};
-ghost use Rattle.camac_response.specs.Checked.{service_name};
+ghost use Rattle.camac_response.specs.Checked.{AreKept, IsKept, service_name};
 ghost use Rattle.camac_response_times.specs.Found.{response_at};
 ghost use Rattle.camac_response_times.specs.Setting.{told_for};
 

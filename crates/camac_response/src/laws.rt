@@ -1,8 +1,7 @@
 // Answers in time, each law as the contract of a function that does nothing.
 
 ghost use Rattle.camac_response.specs.Checked.{CheckedRespond, Responds};
-ghost use Rattle.camac_response.specs.Reach.{DecidedServe};
-ghost use Rattle.camac_response.specs.Served.{HarmlessServe, ServicesServe};
+ghost use Rattle.camac_response.specs.Reach.{DecidedServe, HarmlessServe, ServicesServe};
 ghost use Rattle.camac_response.specs.Laws.{AnswersInTime, LookAtMesAreAnswered, LowestAreCalled, StretchesEnd};
 
 use camac_checked::Checked;

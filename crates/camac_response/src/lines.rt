@@ -16,6 +16,12 @@ use camac_response_times::{Rate, Response, Responses, Setting, Source, told_for}
 use camac_word::{GlBit, Watched, WriteFault};
 use std::io::Write;
 
+const NOT_CLEARED: &str = "does not clear its look-at-me";
+
+const CLEARED_BY: &str = "cleared by ";
+
+const HIDDEN_BY: &str = "hidden by ";
+
 /// Writes a line for each service, in the order of their bits: its bound, its rate, the most cycles from its look-at-me to its beginning and to
 /// its end, with the number that was asked for, and its longest stretch. Numbers are told below the bits of what is unkept alone, and which services may clear their look-at-mes twice. Then a line for
 /// each thing that is unkept. After a write fault a prefix of all was written.
@@ -90,13 +96,13 @@ fn push_why(line: &mut Line, checked: &Checked, why: Why)
     ensures len { length line.new ≤ length line.old + 43 }
 {
     match why {
-        Why::NotCleared => line.push_str("does not clear its look-at-me"),
+        Why::NotCleared => line.push_str(NOT_CLEARED),
         Why::ClearedBy(number) => {
-            line.push_str("cleared by ");
+            line.push_str(CLEARED_BY);
             line.push_bytes(service_name(checked, number));
         }
         Why::HiddenBy(number) => {
-            line.push_str("hidden by ");
+            line.push_str(HIDDEN_BY);
             line.push_bytes(service_name(checked, number));
         }
     }

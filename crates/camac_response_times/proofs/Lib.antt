@@ -1,4 +1,3 @@
-pub mod Wanted
 pub mod Rounds
 pub mod Rates
 pub mod Words

@@ -1,15 +1,38 @@
--- What is found by rounds is the least that is enough.
-use Rattle.std.proofs.Common.{◌≡◌, ◌≢◌, ℕ, zero, suc, ◌+◌, ◌-◌, ◌*◌, ◌<◌, ◌≤◌, List, [], ◌∷◌, Option, Some, None, Bool, true, false, refl, sym, ◌∙◌, ap, subst, inl, inr, arith}
-use Rattle.std.specs.Prelude.{max, nat_eq, nat_le}
-use Rattle.std.proofs.Math.Nat.{le_trans}
+-- What services want within some cycles, and what is found by rounds: the least that is enough.
+use Rattle.std.proofs.Common.{◌≡◌, ◌≢◌, ℕ, zero, suc, ◌+◌, ◌-◌, ◌*◌, ◌<◌, ◌≤◌, List, [], ◌∷◌, Option, Some, None, Bool, true, false, refl, sym, ◌∙◌, ap, subst, inl, inr, arith, ◌/◌}
+use Rattle.std.specs.Prelude.{max, nat_eq, nat_le, slice_get, if◌then◌else◌}
+use Rattle.std.proofs.Math.Nat.{le_trans, le-div_iff_mul-le, div-mul-le_self, div-zero}
 use Rattle.std.proofs.lemmas.Nat.{mul-le}
 use Rattle.std.proofs.lemmas.Bool.{eqb-true, leb-true, cases_eq}
 use Rattle.std.proofs.lemmas.Option.{same_Some}
 use Rattle.camac_response_times.specs.declared.source.Source.{Source}
-use Rattle.camac_response_times.specs.Response.{calls_within, period, called_within, is_up_to, is_below, stretch_wants, start_wants, IsEnough, StartsWithin, StartsBy}
+use Rattle.camac_response_times.specs.Response.{calls_within, period, called_within, is_up_to, is_below, stretch_wants, start_wants, IsEnough, StartsWithin, StartsBy, before}
 use Rattle.camac_response_times.specs.declared.search.Settled.{Settled}
 use Rattle.camac_response_times.specs.Rounds.{settle, greatest_wait, response_in, most_cycles}
-use Rattle.camac_response_times.proofs.Wanted.{calls_mono, part_le}
+
+div_mono : (t a b : ℕ) → a ≤ b → a / t ≤ b / t
+div_mono zero a b h = let none = div-zero a in omega (arith, none)
+div_mono (suc t) a b h = (le-div_iff_mul-le (omega arith)).1 (le_trans (div-mul-le_self a (suc t)) h)
+
+-- more cycles, no fewer calls
+pub calls_mono : (every : Option ℕ) (a b : ℕ) → a ≤ b → calls_within every a ≤ calls_within every b
+calls_mono None a b h = omega arith
+calls_mono (Some t) a b h = let less = div_mono t a b h in omega (arith, less)
+
+pub part_le : (b : Bool) (x y : ℕ) → (b ≡ true → x ≤ y) → (if b then x else 0) ≤ (if b then y else 0)
+part_le true x y h = h refl
+part_le false x y h = omega arith
+
+-- a service of a greater bit takes no more cycles than may be in progress before
+pub before_most : (g : ℕ) (ts : List Source) (i : ℕ) (t : Source) → slice_get ts i ≡ Some t → is_up_to g t ≡ false → t.cycles ≤ before g ts
+before_most g [] i t at is = absurd (cc)
+before_most g (u ∷ ts) zero t at is =
+    let same : u ≡ t = same_Some u t at in
+    let not : is_up_to g u ≡ false = ap (is_up_to g) same ∙ is in
+    let cycles : u.cycles ≡ t.cycles = ap (λ z. z.cycles) same in
+    let whole : (if is_up_to g u then 0 else u.cycles) ≡ u.cycles = ap (λ b. if b then 0 else u.cycles) not in
+    omega (arith, cycles, whole)
+before_most g (u ∷ ts) (suc i) t at is = let rest = before_most g ts i t at is in omega (arith, rest)
 
 abbrev pub Monotone : (ℕ → ℕ) → Type 0
 Monotone w = (a b : ℕ) → a ≤ b → w a ≤ w b

@@ -2,16 +2,10 @@
 #![tactic(auto)]
 
 #[cfg(test)]
-mod check_faults;
-#[cfg(test)]
-mod event_faults;
+mod faults;
 #[cfg(test)]
 mod live;
 #[cfg(test)]
-mod narrow;
-#[cfg(test)]
 mod once;
-#[cfg(test)]
-mod plan_faults;
 #[cfg(test)]
 mod run_faults;

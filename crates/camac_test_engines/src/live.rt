@@ -1,9 +1,8 @@
 // What `camac drive @sample` asks for, and what it leaves where a reader or writer fails.
 
-use crate::narrow::narrow;
-use camac_test_fixtures::event_files::FILE_TWO;
+use crate::faults::narrow;
 use camac_test_fixtures::fakes::{Broken, WhenFull};
-use camac_test_fixtures::scripts::{ANSWERS, NO_EVENTS, STRAIGHT_LINE};
+use camac_test_fixtures::texts::{ANSWERS, FILE_TWO, NO_EVENTS, STRAIGHT_LINE};
 use camac_tool::{Outcome, PlanSource, ToolFault, engine_drive};
 use camac_word::Watched;
 use std::alloc::Global;

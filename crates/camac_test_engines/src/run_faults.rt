@@ -1,10 +1,9 @@
 // A run's reads and writes that fail.
 
-use crate::narrow::narrow;
+use crate::faults::narrow;
 use camac_play::event_file_is_sent;
-use camac_test_fixtures::event_files::FILE_TWO;
 use camac_test_fixtures::fakes::{Broken, WhenFull};
-use camac_test_fixtures::scripts::{ANSWERS, LISTING, STRAIGHT_LINE};
+use camac_test_fixtures::texts::{ANSWERS, FILE_TWO, LISTING, STRAIGHT_LINE};
 use camac_tool::{Outcome, PlanSource, ToolFault, engine_run};
 use camac_word::Watched;
 use std::alloc::Global;

@@ -1,8 +1,6 @@
 //! What the tests of several crates share: readers and writers that fail, and the texts of several worked rows.
 #![tactic(auto)]
 
-pub mod event_files;
 pub mod fakes;
 pub mod once;
-pub mod plans;
-pub mod scripts;
+pub mod texts;

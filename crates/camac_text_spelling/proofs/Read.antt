@@ -25,7 +25,7 @@ use Rattle.camac_text_cursor.proofs.Steps.{while_off}
 use Rattle.camac_text_spelling.specs.Pieces.{Prefix}
 use Rattle.camac_text_spelling.specs.Declarations as spell
 use Rattle.camac_text_spelling.specs.Declarations.{Passed, none_passed, pass}
-use Rattle.camac_text_spelling.specs.Laws.{SpelledTokensAreRead, SpelledIsRead, SpelledOnce, FaultSpellsNothing, RefusedIsNotSpelled}
+use Rattle.camac_text_spelling.specs.Spells.{SpelledTokensAreRead, SpelledIsRead, SpelledOnce, FaultSpellsNothing, RefusedIsNotSpelled}
 use Rattle.camac_text_spelling.proofs.Takes.{prefix_split}
 use Rattle.camac_text_spelling.proofs.GivesExpressions.{ok, while_turn}
 use Rattle.camac_text_spelling.proofs.Walk.{take_all, passed_of, AreFirst, Limited, Stands, Closes, declaration_opens}

@@ -31,8 +31,7 @@ use Rattle.camac_text.proofs.WellFormed.{read_well_formed}
 use Rattle.camac_text_spelling.specs.Pieces.{Piece, first_word, numeral, name, text_at, Prefix, Names}
 use Rattle.camac_text_spelling.specs.Declarations as spell
 use Rattle.camac_text_spelling.specs.Declarations.{service_names, script}
-use Rattle.camac_text_spelling.specs.Spells.{Spells, IsSpelled}
-use Rattle.camac_text_spelling.specs.Laws.{ReadIsSpelled, example_text, example_tree}
+use Rattle.camac_text_spelling.specs.Spells.{Spells, IsSpelled, ReadIsSpelled, example_text, example_tree}
 use Rattle.camac_text_spelling.proofs.Takes.{prefix_join, prefix_token, prefix_begin, found_named, found_lam, found_table, found_procedure, Tells, Took, join, returns, took_one, took_first, took_token, took_word, took_sign, took_branch, took_lam, then_missed}
 use Rattle.camac_text_spelling.proofs.SpelledProcedures.{procedure_spelled, Declares, with_table, declares_table, with_lam, declares_lam, declares_variables, with_service, declares_service, Sofar, one_more}
 use Rattle.camac_text_spelling.proofs.SpelledStatements.{took_block}

@@ -3,4 +3,3 @@ pub mod Phrases
 pub mod Statements
 pub mod Declarations
 pub mod Spells
-pub mod Laws

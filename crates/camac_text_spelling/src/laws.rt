@@ -1,6 +1,6 @@
 // What holds of the spelling of trees: each law is the contract of a function that does nothing.
 
-ghost use Rattle.camac_text_spelling.specs.Laws.{ExampleIsSpelled, ReadIsSpelled, SpelledTokensAreRead, SpelledIsRead, SpelledOnce, FaultSpellsNothing, RefusedIsNotSpelled};
+ghost use Rattle.camac_text_spelling.specs.Spells.{ExampleIsSpelled, ReadIsSpelled, SpelledTokensAreRead, SpelledIsRead, SpelledOnce, FaultSpellsNothing, RefusedIsNotSpelled};
 
 /// The tokens of the standard example's text spell its tree.
 #[tactic(auto, using(crate::proofs::SpelledScripts::example_is_spelled))]

@@ -3,7 +3,7 @@ use Rattle.std.specs.Prelude.{◌≡◌, ◌⊎◌, ℕ, Bool, true, false, List
 use Rattle.std.specs.Io.KnownBytes.{Keeps}
 use Rattle.clap.specs.Words.{Text}
 use Rattle.camac_event.specs.Reading.{file_at}
-use Rattle.camac_explain.specs.Rule.{IsRuleOf}
+use Rattle.camac_explain.specs.Explanation.{IsRuleOf}
 use Rattle.camac_explain.specs.declared.rule.Rule.{Rule}
 use Rattle.camac_play.specs.declared.telling.Telling.{Telling}
 use Rattle.camac_play.specs.declared.telling.Telling.TheVariants.{Listing, Requests}
@@ -16,7 +16,7 @@ use Rattle.camac_engines.specs.Found.{Found}
 use Rattle.camac_engines.specs.Plan.{PlanFound}
 use Rattle.camac_engines.specs.Report.{Reports, report_events}
 use Rattle.camac_engines.specs.Response.{NamesNone, TellsResponse}
-use Rattle.camac_engines.specs.Rule.{TellsRule}
+use Rattle.camac_engines.specs.Explain.{TellsRule}
 use Rattle.camac_engines.specs.declared.ask.Ask.{Ask}
 use Rattle.camac_engines.specs.declared.ask.Ask.TheVariants as ask
 use Rattle.camac_engines.specs.declared.ask.PlanAsk.{PlanAsk}

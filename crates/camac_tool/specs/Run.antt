@@ -6,10 +6,9 @@ use Rattle.camac_answer.specs.Answers.{left_in}
 use Rattle.camac_lines.specs.Refusal.{refusal_text}
 use Rattle.camac_lines.specs.declared.refusal.Refusal.{Refusal}
 use Rattle.camac_run.specs.declared.progress.End.TheVariants as end
-use Rattle.camac_explain.specs.Finding.{refusal_of}
-use Rattle.camac_engines.specs.Engine.{is_write_fault}
+use Rattle.camac_explain.specs.Explanation.{refusal_of}
+use Rattle.camac_engines.specs.Engine.{is_write_fault, is_read_fault}
 use Rattle.camac_engines.specs.Found.{HasJudged, IsTooLong}
-use Rattle.camac_engines.specs.Reading.{is_read_fault}
 use Rattle.camac_engines.specs.declared.fault.ToolFault.{ToolFault}
 use Rattle.camac_engines.specs.declared.fault.ToolFault.TheVariants as fault
 use Rattle.camac_engines.specs.declared.judging.Judged.{Judged}

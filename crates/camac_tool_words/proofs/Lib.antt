@@ -1,3 +1,1 @@
-pub mod Faults
-mod Commands
-mod Numbers
+pub mod CommandLines

@@ -1,6 +1,6 @@
 use Rattle.std.proofs.Common.{map, subst}
 use Rattle.camac_c.specs.Response.{SplitsText}
-use Rattle.camac_c.proofs.Responded.{of_texts}
+use Rattle.camac_c.proofs.Answered.{of_texts}
 use Rattle.camac_c.proofs.response.respond.Goals as goal
 
 pub returns : goal.returns

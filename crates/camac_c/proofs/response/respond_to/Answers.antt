@@ -4,7 +4,7 @@ use Rattle.std.specs.contracts.io.impls.RefSliceU8Read.TheImpl.{ghosts}
 use Rattle.camac_response_times.specs.Setting.{ReadsSettings}
 use Rattle.camac_engines.specs.declared.plan.PlanSource.TheVariants.{Text}
 use Rattle.camac_word.specs.Watched.{inner_of}
-use Rattle.camac_c.proofs.Responded.{response_misused, response_told}
+use Rattle.camac_c.proofs.Answered.{response_misused, response_told}
 use Rattle.camac_c.proofs.response.respond_to.Goals as goal
 
 pub returns-in-Told : goal.returns-in-Told

@@ -1,7 +1,7 @@
 use Rattle.std.proofs.Common.{ℕ, refl, sym, ap, ◌∙◌, subst}
 use Rattle.std.specs.Prelude.{Some}
 use Rattle.camac_c.specs.Run.{AnswersRun}
-use Rattle.camac_c.proofs.Ran.{held, run_answers}
+use Rattle.camac_c.proofs.Answered.{held, run_answers}
 use Rattle.camac_c.proofs.texts.camac_raw_run.Goals as goal
 
 pub returns : goal.returns

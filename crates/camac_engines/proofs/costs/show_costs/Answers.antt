@@ -1,6 +1,6 @@
 use Rattle.std.proofs.Common.{refl}
 use Rattle.std.proofs.lemmas.Result.{err_from_is_err_and}
-use Rattle.camac_explain.specs.Finding.{refusal_of}
+use Rattle.camac_explain.specs.Explanation.{refusal_of}
 use Rattle.camac_engines.specs.Report.{refused}
 use Rattle.camac_engines.specs.declared.outcome.Outcome.TheVariants.{Good}
 use Rattle.camac_word.specs.Watched.{inner_of}

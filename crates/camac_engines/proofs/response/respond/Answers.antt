@@ -1,7 +1,7 @@
 use Rattle.std.proofs.Common.{◌∙◌, ap, Err}
 use Rattle.std.proofs.lemmas.Result.{err_from_is_err_and}
 use Rattle.camac_word.specs.Watched.{inner_of}
-use Rattle.camac_engines.proofs.Responses.{refusal_responds}
+use Rattle.camac_engines.proofs.Told.{refusal_responds}
 use Rattle.camac_engines.proofs.response.respond.Goals as goal
 
 pub returns-in_err-refuse-in-Refused-clause-responds : goal.returns-in_err-refuse-in-Refused-clause-responds

@@ -1,9 +1,8 @@
 use Rattle.std.proofs.Common.{◌∙◌, subst, ap}
 use Rattle.std.proofs.lemmas.Result.{err_from_is_err_and}
-use Rattle.camac_response.specs.Checked.{AreTold, IsNoService}
-use Rattle.camac_response.specs.Kept.{AreKept}
+use Rattle.camac_response.specs.Checked.{AreTold, IsNoService, AreKept}
 use Rattle.camac_engines.specs.Response.{SaysKept, unkept_in}
-use Rattle.camac_engines.proofs.Responses.{response_of}
+use Rattle.camac_engines.proofs.Told.{response_of}
 use Rattle.camac_engines.proofs.response.respond_to.Goals as goal
 
 pub returns-in_err-write_responses-clause-responds : goal.returns-in_err-write_responses-clause-responds

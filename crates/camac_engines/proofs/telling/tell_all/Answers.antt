@@ -3,7 +3,7 @@ use Rattle.std.specs.Prelude.{Ok}
 use Rattle.camac_word.specs.Watched.{inner_of}
 use Rattle.camac_engines.specs.Accepted.{Accepts, accepted}
 use Rattle.camac_engines.specs.declared.judging.Judged.{Judged}
-use Rattle.camac_engines.proofs.Whole.{bounds_told, refusals_told}
+use Rattle.camac_engines.proofs.Told.{bounds_told, refusals_told}
 use Rattle.camac_engines.proofs.telling.tell_all.Goals as goal
 
 pub returns-in-Accepted-clause-tells : goal.returns-in-Accepted-clause-tells

@@ -1,6 +1,6 @@
 use Rattle.std.proofs.Common.{◌≡◌, map, drop}
 use Rattle.camac_lang.specs.View.{lam_of}
-use Rattle.camac_explain.specs.Names.{first_lam}
+use Rattle.camac_explain.specs.Sentence.{first_lam}
 use Rattle.camac_explain.proofs.names.first_lam.Given as goal
 
 abbrev pub invariant-lams : goal.invariant-lams

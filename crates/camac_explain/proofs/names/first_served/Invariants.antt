@@ -1,6 +1,6 @@
 use Rattle.std.proofs.Common.{◌≡◌, map, drop}
 use Rattle.camac_lang.specs.View.{lam_of, service_of}
-use Rattle.camac_explain.specs.Names.{first_served}
+use Rattle.camac_explain.specs.Sentence.{first_served}
 use Rattle.camac_explain.proofs.names.first_served.Given as goal
 
 abbrev pub invariant-services : goal.invariant-services

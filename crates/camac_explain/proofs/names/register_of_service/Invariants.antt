@@ -1,6 +1,6 @@
 use Rattle.std.proofs.Common.{◌≡◌, map, drop}
 use Rattle.camac_lang.specs.View.{service_of}
-use Rattle.camac_explain.specs.Names.{register_in_service}
+use Rattle.camac_explain.specs.Sentence.{register_in_service}
 use Rattle.camac_explain.proofs.names.register_of_service.Given as goal
 
 abbrev pub invariant-services : goal.invariant-services

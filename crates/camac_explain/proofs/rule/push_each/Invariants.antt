@@ -1,6 +1,6 @@
 use Rattle.std.proofs.Common.{◌≡◌, ◌++◌, drop, map}
 use Rattle.std.specs.List.{flat_map}
-use Rattle.camac_explain.specs.Rule.{fix_line}
+use Rattle.camac_explain.specs.Explanation.{fix_line}
 use Rattle.camac_explain.proofs.rule.push_each.Given as goal
 
 abbrev pub invariant-fixes : goal.invariant-fixes

@@ -1,5 +1,5 @@
 use Rattle.std.proofs.Common.{◌≡◌, None, length}
-use Rattle.camac_explain_case.specs.Address.{last_set}
+use Rattle.camac_explain_case.specs.Case.{last_set}
 use Rattle.camac_explain_case.proofs.address.last_set.Given as goal
 
 abbrev pub invariant-loop-rest : goal.invariant-loop-rest

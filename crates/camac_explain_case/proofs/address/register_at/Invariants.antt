@@ -1,5 +1,5 @@
 use Rattle.std.proofs.Common.{◌≡◌, length}
-use Rattle.camac_explain_case.specs.Address.{register_at}
+use Rattle.camac_explain_case.specs.Case.{register_at}
 use Rattle.camac_explain_case.proofs.address.register_at.Given as goal
 
 abbrev pub invariant-loop-rest : goal.invariant-loop-rest

@@ -1,5 +1,5 @@
 use Rattle.std.proofs.Common.{◌∙◌}
-use Rattle.camac_explain_case.proofs.Places.{pushed}
+use Rattle.camac_explain_case.proofs.Told.{pushed}
 use Rattle.camac_explain_case.proofs.case.push_places_of.Goals as goal
 
 pub returns-in_ok-extend_from_slice-in-len1-up-3 : goal.returns-in_ok-extend_from_slice-in-len1-up-3

@@ -1,5 +1,5 @@
 use Rattle.std.proofs.Common.{◌≡◌, drop}
-use Rattle.camac_explain_plan.specs.Unknown.{home_of}
+use Rattle.camac_explain_plan.specs.Told.{home_of}
 use Rattle.camac_explain_plan.proofs.unknown.first_home.Given as goal
 
 abbrev pub invariant-tables : goal.invariant-tables

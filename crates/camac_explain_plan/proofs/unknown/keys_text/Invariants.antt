@@ -1,5 +1,5 @@
 use Rattle.std.proofs.Common.{◌≡◌, ◌++◌, drop, length, string_bytes}
-use Rattle.camac_explain_plan.specs.Unknown.{keys_from}
+use Rattle.camac_explain_plan.specs.Told.{keys_from}
 use Rattle.camac_explain_plan.proofs.unknown.keys_text.Given as goal
 
 abbrev pub invariant-keys : goal.invariant-keys

@@ -1,5 +1,5 @@
 use Rattle.std.proofs.Common.{◌≡◌, drop}
-use Rattle.camac_explain_plan.specs.Unknown.{near_key}
+use Rattle.camac_explain_plan.specs.Told.{near_key}
 use Rattle.camac_explain_plan.proofs.unknown.near_key.Given as goal
 
 abbrev pub invariant-known : goal.invariant-known

@@ -1,6 +1,6 @@
 use Rattle.std.proofs.Common.{◌≡◌}
 use Rattle.toml.specs.View.{members_view}
-use Rattle.camac_explain_plan.specs.Unknown.{nth_key}
+use Rattle.camac_explain_plan.specs.Told.{nth_key}
 use Rattle.camac_explain_plan.proofs.unknown.nth_key.Given as goal
 
 abbrev pub invariant-members : goal.invariant-members

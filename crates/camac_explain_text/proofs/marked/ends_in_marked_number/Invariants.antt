@@ -1,5 +1,5 @@
 use Rattle.std.proofs.Common.{◌≡◌, length}
-use Rattle.camac_explain_text.specs.Marked.{ends_in_marked_number}
+use Rattle.camac_explain_text.specs.Mistake.{ends_in_marked_number}
 use Rattle.camac_explain_text.proofs.marked.ends_in_marked_number.Given as goal
 
 abbrev pub invariant-loop-rest : goal.invariant-loop-rest

@@ -1,6 +1,6 @@
 use Rattle.std.proofs.Common.{sym}
 use Rattle.std.proofs.lemmas.Str.{is_utf8-from_IsUtf8}
-use Rattle.camac_explain_text_words.proofs.Bytes.{is_no_text}
+use Rattle.camac_explain_text_words.proofs.Spellings.{is_no_text}
 use Rattle.camac_explain_text_words.proofs.parts.is_text.Goals as goal
 
 pub returns-in-Ok : goal.returns-in-Ok

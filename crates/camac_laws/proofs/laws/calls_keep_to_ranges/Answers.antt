@@ -4,7 +4,7 @@ use Rattle.camac_lang.specs.Scope.{is_well_formed}
 use Rattle.camac_lang.specs.Tree.{Script}
 use Rattle.camac_branch.specs.Plan.{Layout, IsPlan}
 use Rattle.camac_laws.specs.Calls.{AcceptedCallsKeep}
-use Rattle.camac_laws.proofs.Calls.{accepted_calls_keep}
+use Rattle.camac_laws.proofs.Guarded.{accepted_calls_keep}
 use Rattle.camac_laws.proofs.laws.calls_keep_to_ranges.Goals as goal
 
 pub returns : goal.returns

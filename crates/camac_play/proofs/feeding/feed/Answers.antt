@@ -5,8 +5,7 @@ use Rattle.camac_run.specs.Runner.{last_words_in}
 use Rattle.camac_answer.specs.Answers.{window, IsOpen}
 use Rattle.camac_play.specs.Told.{asked_text, most_answers, begins_after}
 use Rattle.camac_run.proofs.Told.{never_again}
-use Rattle.camac_play.proofs.Fed.{starts, stops_at_first, stops_asking, stops_beginning, sends_due, ends_here, faults_here, unread_here, overruns_here, goes_on, stops_here, same_number}
-use Rattle.camac_play.proofs.Given.{one_more, next_is, left_at}
+use Rattle.camac_play.proofs.Fed.{starts, stops_at_first, stops_asking, stops_beginning, sends_due, ends_here, faults_here, unread_here, overruns_here, goes_on, stops_here, same_number, one_more, next_is, left_at}
 use Rattle.camac_play.proofs.Sending.{SendsPrefix-longer, SendsPrefix-after, Sends-trans, Sends-kept, listing_sent, listing_part, events_sent, events_part}
 use Rattle.camac_play.proofs.feeding.feed.Goals as goal
 

@@ -1,4 +1,4 @@
-use Rattle.camac_play.proofs.Whole.{headline_over}
+use Rattle.camac_play.proofs.Fed.{headline_over}
 use Rattle.camac_play.proofs.playing.play_over.Goals as goal
 
 pub returns-clause-headline : goal.returns-clause-headline

@@ -1,8 +1,7 @@
 use Rattle.std.proofs.Common.{ℕ, ◌<◌}
 use Rattle.camac_response_times.specs.Found.{response_at}
 use Rattle.camac_response_times.specs.Setting.{told_for}
-use Rattle.camac_response.specs.Checked.{service_name}
-use Rattle.camac_response.specs.Kept.{IsKept}
+use Rattle.camac_response.specs.Checked.{service_name, IsKept}
 use Rattle.camac_response.proofs.kept.are_kept.Given as goal
 
 abbrev pub invariant-services : goal.invariant-services

@@ -1,4 +1,4 @@
-use Rattle.camac_tool_words.proofs.Commands.{with_argument, with_last}
+use Rattle.camac_tool_words.proofs.CommandLines.{with_argument, with_last}
 use Rattle.camac_tool_words.proofs.command.drive_command.Goals as goal
 
 pub returns : goal.returns

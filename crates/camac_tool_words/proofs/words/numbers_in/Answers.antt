@@ -1,6 +1,6 @@
 use Rattle.std.proofs.Common.{◌+◌, ◌≤◌, [], arith, drop, length, map, slice_index_or, subst, sym}
 use Rattle.std.proofs.lemmas.List.{drop_all, length-map}
-use Rattle.camac_tool_words.proofs.Numbers.{all_read, further, none_read, not_one, one_more}
+use Rattle.camac_tool_words.proofs.CommandLines.{all_read, further, none_read, not_one, one_more}
 use Rattle.camac_tool_words.proofs.words.numbers_in.Goals as goal
 
 pub returns-in_default-clause-none : goal.returns-in_default-clause-none

@@ -1,5 +1,5 @@
 use Rattle.std.proofs.Common.{drop, map}
-use Rattle.camac_tool_words.proofs.Numbers.{AreRead}
+use Rattle.camac_tool_words.proofs.CommandLines.{AreRead}
 use Rattle.camac_tool_words.proofs.words.numbers_in.Given as goal
 
 abbrev pub invariant-words : goal.invariant-words

@@ -2,7 +2,7 @@ use Rattle.std.proofs.Common.{rules, map, string_bytes, subst}
 use Rattle.std.proofs.lemmas.Result.{err_from_is_err_and}
 use Rattle.clap.specs.Words.{app_of, subcommand_rows_of}
 use Rattle.camac_tool_words.specs.Words.{NamesJob}
-use Rattle.camac_tool_words.proofs.Faults.{of_job, of_memory, of_no_job, of_two, of_usage}
+use Rattle.camac_tool_words.proofs.CommandLines.{of_job, of_memory, of_no_job, of_two, of_usage}
 use Rattle.camac_tool_words.proofs.words.read_words.Goals as goal
 
 pub returns-in_err-command-clause-fault : goal.returns-in_err-command-clause-fault

@@ -50,8 +50,7 @@ use Rattle.camac_checked.specs.contracts.checked.Checked as script
 use Rattle.camac_checked.proofs.checked.Checked.TheLaws as script_laws
 use Rattle.camac_c.specs.contracts.handle.Handle as handle
 use Rattle.camac_c.specs.contracts.loose.Loose as loose
-use Rattle.camac_c.proofs.Taken.{al, three, three_good, both_good, handle_in, some_owned, loose_in_at, result_out}
-use Rattle.camac_c.proofs.Values.{both, loose_out}
+use Rattle.camac_c.proofs.Taken.{al, three, three_good, both_good, handle_in, some_owned, loose_in_at, result_out, both, loose_out}
 use Rattle.camac_c.specs.contracts.session.start as callee
 use Rattle.camac_c.proofs.session.start.Met.{met}
 use Rattle.camac_c.specs.contracts.handle.Handle.begin.{ended, clauses}

@@ -37,8 +37,7 @@ use Rattle.camac_c.specs.Owned.{run_in}
 use Rattle.camac_checked.specs.contracts.checked.Checked as script
 use Rattle.camac_c.specs.contracts.handle.Handle as handle
 use Rattle.camac_c.specs.contracts.loose.Loose as loose
-use Rattle.camac_c.proofs.Taken.{al, three, three_good, both_good, handle_out, either_owned, loose_in_at}
-use Rattle.camac_c.proofs.Values.{both}
+use Rattle.camac_c.proofs.Taken.{al, three, three_good, both_good, handle_out, either_owned, loose_in_at, both}
 use Rattle.camac_c.specs.contracts.session.finish as callee
 use Rattle.camac_c.proofs.session.finish.Met.{met}
 use Rattle.camac_c.specs.contracts.handle.Handle.end.{ended, clauses}

@@ -40,8 +40,7 @@ use Rattle.camac_c.specs.contracts.loose.Loose as loose
 use Rattle.camac_c.specs.contracts.plain.SessionAsk as ask_type
 use Rattle.camac_c.proofs.plain.SessionAsk.TheLaws as ask_laws
 use Rattle.camac_c.specs.contracts.plain.Told as told_type
-use Rattle.camac_c.proofs.Taken.{three, three_good, both_good, handle_out, handle_in, either_owned, none_owned, some_owned, loose_in_at, word_of}
-use Rattle.camac_c.proofs.Values.{both, loose_out}
+use Rattle.camac_c.proofs.Taken.{three, three_good, both_good, handle_out, handle_in, either_owned, none_owned, some_owned, loose_in_at, word_of, both, loose_out}
 use Rattle.camac_c.specs.contracts.session.step as callee
 use Rattle.camac_c.proofs.session.step.Met.{met}
 use Rattle.camac_c.specs.contracts.handle.Handle.talk.{ended, clauses}

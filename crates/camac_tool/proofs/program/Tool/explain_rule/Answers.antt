@@ -1,5 +1,5 @@
 use Rattle.std.proofs.Common.{ap, Err}
-use Rattle.camac_engines.specs.Rule.{TellsRule}
+use Rattle.camac_engines.specs.Explain.{TellsRule}
 use Rattle.camac_tool.proofs.Ended.{tells_of, written_stopped}
 use Rattle.camac_tool.proofs.program.Tool.explain_rule.Goals as goal
 
