@@ -1,6 +1,6 @@
 // A run in progress: what is asked of it, and what it tells.
 
-ghost use Rattle.std.specs.Prelude.{◌≡◌, ◌<◌, ◌≤◌, ◌↔◌, ℕ, false, length, IfOk, IfSome, IsSome};
+ghost use Rattle.std.specs.Prelude.{◌≡◌, ◌<◌, ◌↔◌, ℕ, false, IfOk, IfSome, IsSome};
 ghost use Rattle.camac_machine.specs.Rest.{is_paused};
 ghost use Rattle.camac_run.specs.Operation.{Wants};
 ghost use Rattle.camac_run.specs.Requested.{IsSafeRequest, held_in};
