@@ -4,7 +4,8 @@ use Rattle.std.proofs.lemmas.List.{length-append}
 use Rattle.std.specs.Prelude.{Option, Some, None, Ok, Err, Result}
 use Rattle.std.specs.Global.{Vec}
 use Rattle.camac_engines.specs.Plan.{IsPlanTooLong, PlanFound, Says, plan_found}
-use Rattle.camac_engines.specs.Engine.{ConsumesSome, WasRead, Answers as EngineAnswers}
+use Rattle.camac_engines.specs.Engine.{Answers as EngineAnswers}
+use Rattle.camac_engines.specs.Reading.{ConsumesSome, WasRead}
 use Rattle.camac_engines.specs.declared.plan.PlanSource.{PlanSource}
 use Rattle.camac_engines.specs.declared.plan.PlanSource.TheVariants.{Sample, Text}
 use Rattle.camac_engines.specs.declared.reading.TheConstants.{TEXT_LIMIT, EVENTS_LIMIT}

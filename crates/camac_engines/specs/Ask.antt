@@ -3,7 +3,8 @@ use Rattle.std.specs.Prelude.{ℕ, ◌+◌, List, Option, Result, Ok, Err}
 use Rattle.camac_branch.specs.Plan.{Layout}
 use Rattle.camac_event.specs.Reading.{file_at}
 use Rattle.camac_engines.specs.Headings.{costs_report, headings_report}
-use Rattle.camac_engines.specs.Engine.{Answers, ConsumesSome, WasRead}
+use Rattle.camac_engines.specs.Engine.{Answers}
+use Rattle.camac_engines.specs.Reading.{ConsumesSome, WasRead}
 use Rattle.camac_engines.specs.Explain.{PlanExplained, ReportsMore, TellsExplained, TellsHeadings}
 use Rattle.camac_engines.specs.Found.{Found, HasRead, IsTooLong}
 use Rattle.camac_engines.specs.Known.{known_report}

@@ -5,7 +5,7 @@ use Rattle.camac_plan.specs.declared.fault.PlanRule.{PlanRule}
 use Rattle.camac_explain.specs.declared.finding.Finding.TheVariants as finding
 use Rattle.camac_engines.specs.Accepted.{Accepts, accepted}
 use Rattle.camac_engines.specs.Plan.{HasCase, IsPlanTooLong, Says}
-use Rattle.camac_engines.specs.Engine.{ConsumesSome, WasRead}
+use Rattle.camac_engines.specs.Reading.{ConsumesSome, WasRead}
 use Rattle.camac_engines.specs.declared.fault.ToolFault.{ToolFault}
 use Rattle.camac_engines.specs.declared.fault.ToolFault.TheVariants as fault
 use Rattle.camac_engines.specs.declared.judging.Judged.{Judged}

@@ -1,5 +1,6 @@
 pub mod Sample
 pub mod Report
+pub mod Reading
 pub mod Plan
 pub mod Engine
 pub mod Headings

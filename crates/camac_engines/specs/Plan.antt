@@ -5,7 +5,7 @@ use Rattle.camac_branch.specs.Plan.{Layout}
 use Rattle.camac_plan.specs.declared.fault.PlanFault.TheVariants.{Broken}
 use Rattle.camac_plan.specs.declared.fault.PlanRule.{PlanRule}
 use Rattle.camac_plan.specs.Reading.{TellsCase, reading}
-use Rattle.camac_engines.specs.Engine.{ConsumesSome, WasRead}
+use Rattle.camac_engines.specs.Reading.{ConsumesSome, WasRead}
 use Rattle.camac_engines.specs.Sample.{sample}
 use Rattle.camac_engines.specs.declared.fault.ToolFault.{ToolFault}
 use Rattle.camac_engines.specs.declared.fault.ToolFault.TheVariants as fault

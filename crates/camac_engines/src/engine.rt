@@ -3,7 +3,8 @@
 ghost use Rattle.std.specs.Prelude.{◌≡◌, ◌||◌, Err, false};
 ghost use Rattle.camac_event.specs.Reading.{file_at};
 ghost use Rattle.camac_engines.specs.Ask.{AnswersEvents, AnswersPlan, AnswersTexts, TellsFound, TellsPlan, TellsScript};
-ghost use Rattle.camac_engines.specs.Engine.{IsWritten, Shows, is_write_fault, is_read_fault};
+ghost use Rattle.camac_engines.specs.Engine.{IsWritten, Shows, is_write_fault};
+ghost use Rattle.camac_engines.specs.Reading.{is_read_fault};
 ghost use Rattle.camac_engines.specs.Found.{HaveCase, found_of};
 ghost use Rattle.camac_engines.specs.Plan.{HasCase, HasCaseIf, found_by, plan_failed};
 ghost use Rattle.camac_engines.specs.Report.{refused, report_events, report_of};

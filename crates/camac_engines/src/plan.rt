@@ -2,7 +2,7 @@
 
 ghost use Rattle.std.specs.Prelude.{◌≡◌, ◌||◌};
 ghost use Rattle.camac_engines.specs.Plan.{JudgesPlan, ReadsPlan, plan_failed};
-ghost use Rattle.camac_engines.specs.Engine.{is_read_fault};
+ghost use Rattle.camac_engines.specs.Reading.{is_read_fault};
 
 use crate::fault::ToolFault;
 use crate::reading::{TEXT_LIMIT, read_whole};

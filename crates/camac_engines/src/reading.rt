@@ -3,7 +3,7 @@
 ghost use Rattle.std.specs.Prelude.{◌≡◌, ◌≤◌, ◌<◌, ◌+◌, ◌^◌, ◌||◌, ◌++◌, IfOk, IsErrOf, OnOk};
 ghost use Rattle.std.specs.Io.KnownBytes.{Consumes, IsAtEnd};
 ghost use Rattle.camac_word.specs.Watched.{inner_of, has_failed};
-ghost use Rattle.camac_engines.specs.Engine.{Reads, is_read_fault};
+ghost use Rattle.camac_engines.specs.Reading.{Reads, is_read_fault};
 
 use crate::fault::ToolFault;
 use camac_word::Watched;

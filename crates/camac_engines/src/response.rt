@@ -2,7 +2,8 @@
 
 ghost use Rattle.std.specs.Prelude.{◌≡◌, ◌||◌, length};
 ghost use Rattle.camac_response.specs.Checked.{AreKept};
-ghost use Rattle.camac_engines.specs.Engine.{is_write_fault, is_read_fault};
+ghost use Rattle.camac_engines.specs.Engine.{is_write_fault};
+ghost use Rattle.camac_engines.specs.Reading.{is_read_fault};
 ghost use Rattle.camac_engines.specs.Plan.{plan_failed};
 ghost use Rattle.camac_engines.specs.Response.{Responds, RespondsOn, SaysKept};
 ghost use Rattle.camac_engines.specs.declared.judging.Judged.TheVariants.{Accepted};

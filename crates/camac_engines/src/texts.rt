@@ -3,7 +3,7 @@
 ghost use Rattle.std.specs.Prelude.{◌≡◌, ◌||◌};
 ghost use Rattle.camac_engines.specs.Found.{ReadsTexts};
 ghost use Rattle.camac_engines.specs.Plan.{plan_failed};
-ghost use Rattle.camac_engines.specs.Engine.{is_read_fault};
+ghost use Rattle.camac_engines.specs.Reading.{is_read_fault};
 ghost use Rattle.camac_word.specs.Watched.{inner_of, has_failed};
 
 use crate::fault::ToolFault;

@@ -5,7 +5,7 @@ use Rattle.std.specs.Io.KnownBytes.{Keeps}
 use Rattle.clap.specs.Words.{Text}
 use Rattle.camac_engines.specs.Found.{Found, HasJudged, HasRead}
 use Rattle.camac_engines.specs.Plan.{PlanFound, Says}
-use Rattle.camac_engines.specs.Engine.{WasRead}
+use Rattle.camac_engines.specs.Reading.{WasRead}
 use Rattle.camac_engines.specs.declared.judging.Judged.{Judged}
 use Rattle.camac_engines.specs.declared.plan.PlanSource.{PlanSource}
 use Rattle.camac_engines.specs.declared.plan.PlanSource.TheVariants as source

@@ -4,7 +4,8 @@ use Rattle.std.specs.Prelude.{Result, Ok, Err}
 use Rattle.std.proofs.Math.Bool.{or-false}
 use Rattle.camac_lines.specs.Refusal.{refusal_text}
 use Rattle.camac_lines.specs.declared.refusal.Refusal.{Refusal}
-use Rattle.camac_engines.specs.Engine.{Shows, is_write_fault, is_read_fault}
+use Rattle.camac_engines.specs.Engine.{Shows, is_write_fault}
+use Rattle.camac_engines.specs.Reading.{is_read_fault}
 use Rattle.camac_engines.specs.Found.{HasJudged, ReadsJudged}
 use Rattle.camac_engines.specs.Report.{refused}
 use Rattle.camac_engines.specs.declared.fault.ToolFault.{ToolFault}
