@@ -25,7 +25,7 @@ use Rattle.camac_tool.specs.Devices.{HasBeginning, RunsOnDevices}
 use Rattle.camac_tool.specs.Gathered.{device_of, given_to, held_in}
 use Rattle.camac_tool.specs.Headline.{JudgedKeeps}
 use Rattle.camac_tool.specs.Input.{IsJudgedIn}
-use Rattle.camac_tool.specs.Jobs.{DoesRun, Drives, HandsOn, IsGot, IsSaved, IsSettled, OrWriteFault, Replies, Responds, RunTells, RunsTold, Tells, gathers}
+use Rattle.camac_tool.specs.Jobs.{DoesRun, Drives, HandsOn, IsGot, IsSaved, IsSettled, OrWriteFault, Responds, RunTells, RunsTold, Tells, gathers}
 use Rattle.camac_tool.specs.Run.{Runs, RunsFound, RunsJudged, StaysQuiet}
 use Rattle.camac_tool.specs.Saved.{IsKept}
 use Rattle.camac_tool.specs.Status.{EndsStopped}
@@ -34,8 +34,6 @@ use Rattle.camac_tool.specs.declared.gathered.Gathered.{Gathered}
 use Rattle.camac_tool.specs.declared.host.FileId.{FileId}
 use Rattle.camac_tool.specs.declared.program.Done.{Done}
 use Rattle.camac_tool.specs.declared.program.Done.TheVariants.{Answered}
-use Rattle.camac_tool.specs.declared.program.Question.{Question}
-use Rattle.camac_tool.specs.declared.program.Question.TheVariants as question
 
 -- an input could not be opened, or memory was out: nothing is told
 pub unread : (Says : Outcome → List ℕ → Type 0) (o p : Option (List ℕ)) (r : Result Done ToolFault) → r ≡ Err Read → Keeps o p → Tells Says o p r
@@ -76,13 +74,6 @@ module _ (Judges : Judged → Type 0) (IsLong : Type 0) (s : Settings) (o p : Op
   response_stopped TooLong r is h bytes_of plan script every within read finds = rw is h.1
   response_stopped Read r is h bytes_of plan script every within read finds = rw is h
   response_stopped Memory r is h bytes_of plan script every within read finds = rw is h
-
-pub none_replied : (bytes_of : Text → Option (List ℕ)) (q : Question) (o : Option (List ℕ)) → Replies bytes_of q o o (Err Memory)
-none_replied bytes_of (question.Plan a plan) o = Keeps-refl o
-none_replied bytes_of (question.Script a plan script) o = Keeps-refl o
-none_replied bytes_of (question.Known line column turns plan script) o = Keeps-refl o
-none_replied bytes_of (question.Response plan script every within) o = Keeps-refl o
-none_replied bytes_of (question.Events file) o = Keeps-refl o
 
 -- a device without what is held for it
 pub nothing_held : (o : Option (List ℕ)) → append_known o [] ≡ o

@@ -1,6 +1,6 @@
 -- What an engine has read is what the words' inputs have.
 use Rattle.std.proofs.Common.{◌≡◌, ◌⊎◌, ◌↔◌, ◌++◌, ℕ, Bool, true, false, List, Option, None, Some, refl, sym, ap, subst, ◌∙◌, inl, inr, append-nil}
-use Rattle.std.specs.Prelude.{Result, Ok, Err, IfOk, IsOk, IsOkAnd}
+use Rattle.std.specs.Prelude.{Result, Ok, Err, IfOk, IsOk, IsOkAnd, OnErr}
 use Rattle.std.specs.Io.KnownBytes.{Keeps}
 use Rattle.clap.specs.Words.{Text}
 use Rattle.camac_engines.specs.Found.{Found, HasJudged, HasRead}
@@ -10,7 +10,7 @@ use Rattle.camac_engines.specs.declared.judging.Judged.{Judged}
 use Rattle.camac_engines.specs.declared.plan.PlanSource.{PlanSource}
 use Rattle.camac_engines.specs.declared.plan.PlanSource.TheVariants as source
 use Rattle.camac_engines.specs.declared.reading.TheConstants.{TEXT_LIMIT}
-use Rattle.camac_tool.specs.Apart.{Differs, IsApart, IsApartFrom, IsOther, Opens, OpensPlan, PlanDiffers, Words, is_same, name_of}
+use Rattle.camac_tool.specs.Apart.{Differs, IsApart, IsApartFrom, IsNamed, IsOther, IsTaken, IsTakenBy, Meets, Opens, OpensPlan, PlanDiffers, PlanMeets, Words, is_same, name_of}
 use Rattle.camac_tool.specs.Input.{IsFoundIn, IsInputOf, IsJudgedIn, IsPlanIn, IsSourceOf, IsTextOf, is_sample}
 use Rattle.camac_tool.specs.declared.host.FileId.{FileId}
 use Rattle.camac_word.specs.Watched.{inner_of}
@@ -71,6 +71,22 @@ module _ (finds : Text → Option FileId → Type 0) where
   apart_from reads w p s a of_plan of_script of_answers (inr (file, found, outputs, others)) =
       inr (file, found, outputs, (plan_of reads w.plan p file of_plan others.0, other_of (reads s) w.script file of_script others.1, other_of (reads a) w.answers file of_answers others.2))
 
+-- it is one of them where it is one that their inputs read
+module _ (finds : Text → Option FileId → Type 0) where
+  named_of : (reads : FileId → Type 0) (word : Text) (file : FileId) → Opens finds reads word → Meets reads file → IsNamed finds (name_of word) file
+  named_of reads word file opens met = (met.0, opens met.0 met.1, met.2)
+
+  plan_named : {I : Type 0} (reads : I → FileId → Type 0) (plan : Text) (input : Option I) (file : FileId) → OpensPlan finds reads plan input → PlanMeets reads input file → IsNamed finds (name_of plan) file
+  plan_named reads plan None file sample met = absurd met
+  plan_named reads plan (Some input) file opens met = named_of (reads input) plan file opens met
+
+  pub taken_by : {I : Type 0} (reads : I → FileId → Type 0) (w : Words) (p : Option I) (s a : I) → OpensPlan finds reads w.plan p → Opens finds (reads s) w.script → Opens finds (reads a) w.answers
+      → IsTaken finds w.events (λ file. PlanMeets reads p file ⊎ (Meets (reads s) file ⊎ Meets (reads a) file)) → IsTakenBy finds w
+  taken_by reads w p s a of_plan of_script of_answers (file, found, inl output) = (file, found, inl output)
+  taken_by reads w p s a of_plan of_script of_answers (file, found, inr (inl met)) = (file, found, inr (inl (plan_named reads w.plan p file of_plan met)))
+  taken_by reads w p s a of_plan of_script of_answers (file, found, inr (inr (inl met))) = (file, found, inr (inr (inl (named_of (reads s) w.script file of_script met))))
+  taken_by reads w p s a of_plan of_script of_answers (file, found, inr (inr (inr met))) = (file, found, inr (inr (inr (named_of (reads a) w.answers file of_answers met))))
+
 -- what the system found or read is another file than this, where the two were compared
 pub other_was : {F : Type 0} (Is : FileId → Type 0) (file : FileId) (other : Result FileId F) → IsOkAnd other (λ o. is_same file o ≡ false) → IfOk other Is → Differs Is file
 other_was Is file (Ok o) differs is = (o, is, differs)
@@ -84,3 +100,26 @@ other_is Is file (Ok x) other says is = other_was Is file other (says.0 refl) is
 pub if_ok : {T E : Type 0} {A B : Type 0} (r : Result T E) → (A → B) → IfOk r (λ _. A) → IfOk r (λ _. B)
 if_ok (Ok x) f a = f a
 if_ok (Err e) f a = tt
+
+-- or it is this one, or the system did not say which it is
+pub other_met : {T E F : Type 0} (Fails : Type 0) (Is : FileId → Type 0) (file : FileId) (r : Result T E) (other : Result FileId F) → (IsOk r ↔ IsOkAnd other (λ o. is_same file o ≡ false)) → IfOk other Is
+    → OnErr other Fails → OnErr r (Fails ⊎ Meets Is file)
+other_met Fails Is file (Ok x) other says is fails = tt
+other_met Fails Is file (Err e) (Err f) says is fails = inl fails
+other_met Fails Is file (Err e) (Ok o) says is fails = by (is_same file o) refl
+  where
+    by : (b : Bool) → is_same file o ≡ b → Fails ⊎ Meets Is file
+    by true same = inr (o, is, same)
+    by false same = let no : false ≡ true = says.1 same in cc
+
+pub on_err : {T E : Type 0} {A B : Type 0} (r : Result T E) → (A → B) → OnErr r A → OnErr r B
+on_err (Ok x) f a = tt
+on_err (Err e) f a = f a
+
+pub if_err : {T E : Type 0} {A : Type 0} (r : Result T E) → A → OnErr r A
+if_err (Ok x) a = tt
+if_err (Err e) a = a
+
+pub or_else : {A B C : Type 0} → (B → C) → (A ⊎ B) → A ⊎ C
+or_else f (inl a) = inl a
+or_else f (inr b) = inr (f b)

@@ -32,7 +32,15 @@ is_same a b = nat_eq a.device b.device && nat_eq a.number b.number
 abbrev pub Differs : (Is : FileId → Type 0) → FileId → Type 0
 Differs Is file = (other : FileId) × Is other × (is_same file other ≡ false)
 
+-- such a file is there, and it is this
+abbrev pub Meets : (Is : FileId → Type 0) → FileId → Type 0
+Meets Is file = (other : FileId) × Is other × (is_same file other ≡ true)
+
 -- of the plan's input; the sample plan is read from none
+abbrev pub PlanMeets : {I : Type 0} → (reads : I → FileId → Type 0) → Option I → FileId → Type 0
+PlanMeets reads None file = ⊥
+PlanMeets reads (Some input) file = Meets (reads input) file
+
 abbrev pub PlanDiffers : {I : Type 0} → (reads : I → FileId → Type 0) → Option I → FileId → Type 0
 PlanDiffers reads None file = Unit {0}
 PlanDiffers reads (Some input) file = Differs (reads input) file
@@ -70,3 +78,15 @@ module _ (finds : Text → Option FileId → Type 0) where
   abbrev pub IsApartFrom : Words → Type 0
   IsApartFrom w =
       IsApart w.events (λ file. ((is_sample w.plan ≡ true) ⊎ IsOther (name_of w.plan) file) × IsOther (name_of w.script) file × IsOther (name_of w.answers) file)
+
+  abbrev pub IsNamed : (name : Text) → FileId → Type 0
+  IsNamed name = Meets (λ other. finds name (Some other))
+
+  -- The file that was found under the name of EVENTS is that of a standard output or of an input.
+  abbrev pub IsTaken : (events : Text) → (InputMeets : FileId → Type 0) → Type 0
+  IsTaken events InputMeets =
+      (file : FileId) × finds events (Some file) × ((IsNamed (codes "/proc/self/fd/1") file ⊎ IsNamed (codes "/proc/self/fd/2") file) ⊎ InputMeets file)
+
+  -- an input of these words
+  abbrev pub IsTakenBy : Words → Type 0
+  IsTakenBy w = IsTaken w.events (λ file. IsNamed (name_of w.plan) file ⊎ (IsNamed (name_of w.script) file ⊎ IsNamed (name_of w.answers) file))

@@ -9,14 +9,14 @@ use Rattle.camac_play.specs.declared.telling.Telling.TheVariants.{Listing}
 use Rattle.camac_tool.specs.Run.{Runs}
 use Rattle.camac_tool.specs.World.{World}
 
--- before a run: what is left to read of the answers, and what the listing and the event file hold
-abbrev pub before : (answers listing records : Option (List ℕ)) → RunState
-before answers listing records = record {
+-- before a run: what is left to read of the answers, what the listing and the event file hold, and whether one of these has failed
+abbrev pub before : (answers listing records : Option (List ℕ)) → (failed : Bool) → RunState
+before answers listing records failed = record {
   remaining = answers;
   listed = listing;
   recorded = records;
   read_failed = false;
-  write_failed = false;
+  write_failed = failed;
   gathers = true;
   names = [];
 }

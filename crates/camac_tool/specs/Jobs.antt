@@ -59,6 +59,13 @@ abbrev pub ExplainsRule : Text → (o p : Option (List ℕ)) → Result Done Too
 ExplainsRule code o p (Ok (NoCode word)) = IsRuleOf code None × Keeps o p
 ExplainsRule code o p r = (rule : Rule) × IsRuleOf code (Some rule) × Tells (TellsRule rule) o p r
 
+abbrev pub run_words : (plan script answers events : Text) → Words
+run_words plan script answers events = record { plan = plan; script = script; answers = answers; events = events; earlier = Emptied }
+
+-- A live run has its answers from standard input, and empties no EVENTS that holds bytes.
+abbrev pub drive_words : (plan script events : Text) → Words
+drive_words plan script events = record { plan = plan; script = script; answers = codes "@in"; events = events; earlier = Refused }
+
 -- the streams of `run` may hold what they are given
 abbrev pub gathers : Telling → Bool
 gathers Listing = true
@@ -112,7 +119,6 @@ module _ (bytes_of : Text → Option (List ℕ)) where
   Replies (question.Script a plan script) = Tells (ScriptTells plan.now script.now a)
   Replies (question.Known line column turns plan script) = Tells (ScriptTells plan.now script.now (ask.ExplainAt line column turns.items))
   Replies (question.Response plan script every within) = Responds plan.now script.now (map (λ w. w.now) every.items) (map (λ w. w.now) within.items)
-  Replies (question.Events file) = Tells (EventsTell file.now)
 
   -- the system finds files by their names, and an EVENTS that it makes holds no bytes, where they are known
   module _ (finds : Text → Option FileId → Type 0) (begun : Option (List ℕ)) where
@@ -144,7 +150,7 @@ module _ (bytes_of : Text → Option (List ℕ)) where
     abbrev pub Drives : Words → (saves : Option (List ℕ) → Bool) → (o p : Option (List ℕ)) → Result Done ToolFault → Type 0
     Drives w saves o p r = (f : Option (List ℕ)) × OrWriteFault (RunsTold w Requests f o p) r × IsSaved saves f r
 
-  -- A live run has its answers from standard input, and empties no EVENTS that holds bytes. What is on the disk is known by the words of a run.
+  -- what is on the disk is known by the words of a run
   abbrev pub DoesJob : (finds : Text → Option FileId → Type 0) → (begun : Option (List ℕ)) → (saved : Words → Option (List ℕ) → Bool) → Job
       → (o p : Option (List ℕ)) → Result Done ToolFault → Type 0
   DoesJob finds begun saved (job.Plan plan) = HandsOn (Tells (PlanTells plan.now plan_ask.Lines))
@@ -162,6 +168,6 @@ module _ (bytes_of : Text → Option (List ℕ)) where
       HandsOn (Responds plan.now script.now (map (λ w. w.now) every.items) (map (λ w. w.now) within.items))
   DoesJob finds begun saved (job.Events file) = HandsOn (Tells (EventsTell file.now))
   DoesJob finds begun saved (job.Run plan script answers events) =
-      let w : Words = record { plan = plan.now; script = script.now; answers = answers.now; events = events.now; earlier = Emptied } in DoesRun finds begun w (saved w)
+      let w = run_words plan.now script.now answers.now events.now in DoesRun finds begun w (saved w)
   DoesJob finds begun saved (job.Drive plan script events) =
-      let w : Words = record { plan = plan.now; script = script.now; answers = codes "@in"; events = events.now; earlier = Refused } in Drives finds begun w (saved w)
+      let w = drive_words plan.now script.now events.now in Drives finds begun w (saved w)

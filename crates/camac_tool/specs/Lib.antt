@@ -5,8 +5,10 @@ pub mod Input
 pub mod Apart
 pub mod Saved
 pub mod Jobs
+pub mod Causes
 pub mod Status
 pub mod Gathered
 pub mod Streams
+pub mod Live
 pub mod Devices
 pub mod Files

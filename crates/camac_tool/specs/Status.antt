@@ -6,7 +6,7 @@ use Rattle.clap.specs.declared.error.kind.ErrorKind.{ErrorKind}
 use Rattle.clap.specs.declared.error.kind.ErrorKind.TheVariants as kind
 use Rattle.camac_response_times.specs.declared.setting.Misuse.{Misuse}
 use Rattle.camac_response_times.specs.declared.setting.Misuse.TheVariants.{Form}
-use Rattle.camac_engines.specs.Engine.{status_of}
+use Rattle.camac_engines.specs.Engine.{is_write_fault, status_of}
 use Rattle.camac_engines.specs.declared.fault.ToolFault.{ToolFault}
 use Rattle.camac_engines.specs.declared.fault.ToolFault.TheVariants.{Write}
 use Rattle.camac_tool_words.specs.Words.{IsFaultOf, IsJob, camac_app, input_count_of}
@@ -14,6 +14,7 @@ use Rattle.camac_tool_words.specs.declared.words.Job.{Job}
 use Rattle.camac_tool_words.specs.declared.words.JobFault.{JobFault}
 use Rattle.camac_tool_words.specs.declared.words.JobFault.TheVariants.{Usage, InTwice}
 use Rattle.camac_tool.specs.Apart.{Words}
+use Rattle.camac_tool.specs.Causes.{CanFail}
 use Rattle.camac_tool.specs.Jobs.{DoesJob}
 use Rattle.camac_tool.specs.declared.host.FileId.{FileId}
 use Rattle.camac_tool.specs.declared.program.Done.{Done}
@@ -40,10 +41,11 @@ EndsAs (Ok (Misused misuse)) s = EndsMisuse misuse s
 EndsAs (Ok (NoCode word)) s = s ≡ 2
 EndsAs (Err fault) s = EndsStopped fault s
 
--- a job whose output had o, and has p, on such files
-abbrev pub EndsJob : (bytes_of : Text → Option (List ℕ)) → (finds : Text → Option FileId → Type 0) → (begun : Option (List ℕ)) → (saved : Words → Option (List ℕ) → Bool) → Job
-    → (o p : Option (List ℕ)) → ℕ → Type 0
-EndsJob bytes_of finds begun saved job o p s = (done : Result Done ToolFault) × DoesJob bytes_of finds begun saved job o p done × EndsAs done s
+-- A job whose output had o, and has p, and has failed or not, on such files. A write fault had a cause.
+abbrev pub EndsJob : (bytes_of : Text → Option (List ℕ)) → (finds : Text → Option FileId → Type 0) → (begun : Option (List ℕ)) → (saved : Words → Option (List ℕ) → Bool) → (fails : Bool) → Job
+    → (o p : Option (List ℕ)) → (failed : Bool) → ℕ → Type 0
+EndsJob bytes_of finds begun saved fails job o p failed s =
+    (done : Result Done ToolFault) × DoesJob bytes_of finds begun saved job o p done × (is_write_fault done ≡ true → CanFail finds fails job failed) × EndsAs done s
 
 -- Of what `clap` answers in place of a job: out of memory; help or version, which end well unless they cannot be written; a mistake.
 abbrev pub EndsUsage : ErrorKind → ℕ → Type 0
@@ -57,9 +59,9 @@ EndsFault InTwice s = s ≡ 2
 EndsFault (Usage e) s = EndsUsage (kind_of e) s
 
 -- Of these words: of the job that they name, which takes standard input at most once. Or nothing is told: of their fault, or since there are no places for
--- the standard streams.
-abbrev pub Ends : (bytes_of : Text → Option (List ℕ)) → (finds : Text → Option FileId → Type 0) → (begun : Option (List ℕ)) → (saved : Words → Option (List ℕ) → Bool) → List Text
-    → (o p : Option (List ℕ)) → ℕ → Type 0
-Ends bytes_of finds begun saved words o p s =
-    ((job : Job) × IsJob job (subcommand_of camac_app words) × (input_count_of job ≤ 1) × EndsJob bytes_of finds begun saved job o p s)
-    ⊎ (Keeps o p × (((fault : JobFault) × IsFaultOf words fault × EndsFault fault s) ⊎ (s ≡ 3)))
+-- the standard streams, where a call of the host fails.
+abbrev pub Ends : (bytes_of : Text → Option (List ℕ)) → (finds : Text → Option FileId → Type 0) → (begun : Option (List ℕ)) → (saved : Words → Option (List ℕ) → Bool) → (fails : Bool) → List Text
+    → (o p : Option (List ℕ)) → (failed : Bool) → ℕ → Type 0
+Ends bytes_of finds begun saved fails words o p failed s =
+    ((job : Job) × IsJob job (subcommand_of camac_app words) × (input_count_of job ≤ 1) × EndsJob bytes_of finds begun saved fails job o p failed s)
+    ⊎ (Keeps o p × (((fault : JobFault) × IsFaultOf words fault × EndsFault fault s) ⊎ ((s ≡ 3) × (fails ≡ true))))

@@ -29,21 +29,21 @@ abbrev pub records_of : {R W E : Type 0} → Streams R W E → Gathered E
 records_of s = s.records
 
 -- a call of either output has failed
-abbrev pub have_stopped : {R W E : Type 0} → Streams R W E → Bool
-have_stopped s = has_stopped (listing_of s) || has_stopped (records_of s)
+abbrev pub have_stopped : {R W E : Type 0} → (W → Bool) → (E → Bool) → Streams R W E → Bool
+have_stopped listing records s = has_stopped listing (listing_of s) || has_stopped records (records_of s)
 
 -- all that was given to either output was handed on
 abbrev pub HoldNothing : {R W E : Type 0} → Streams R W E → Type 0
 HoldNothing s = (held_in (listing_of s) ≡ []) × (held_in (records_of s) ≡ [])
 
 -- the streams as a run sees them
-abbrev pub run_state : {R W E : Type 0} → (R → Option (List ℕ)) → (W → Option (List ℕ)) → (E → Option (List ℕ)) → Streams R W E → RunState
-run_state remaining listed recorded s = record {
+abbrev pub run_state : {R W E : Type 0} → (R → Option (List ℕ)) → (W → Option (List ℕ)) → (W → Bool) → (E → Option (List ℕ)) → (E → Bool) → Streams R W E → RunState
+run_state remaining listed list_failed recorded record_failed s = record {
   remaining = left_ahead remaining (answers_of s);
   listed = given_to listed (listing_of s);
   recorded = given_to recorded (records_of s);
   read_failed = has_failed_ahead (answers_of s);
-  write_failed = have_stopped s;
+  write_failed = have_stopped list_failed record_failed s;
   gathers = true;
   names = [];
 }

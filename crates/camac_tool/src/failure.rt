@@ -4,12 +4,13 @@ ghost use Rattle.std.specs.Prelude.{◌≡◌};
 ghost use Rattle.camac_tool.specs.Status.{EndsStopped, fault_status};
 ghost use Rattle.camac_engines.specs.declared.fault.ToolFault.TheVariants.{Read as read-fault, Write as write-fault};
 
+use crate::device::Device;
 use arrayvec::ArrayString;
 use camac_engines::{ToolFault, status};
 use std::cell::Cell;
 use std::fmt::Write as TextWrite;
 use std::io;
-use std::io::{Eprint, Error, ErrorKind, Read, Write};
+use std::io::{Eprint, Error, ErrorKind, Read};
 
 /// What stands between the system's text of an error and its number, as the kit writes them.
 const NUMBER: &str = " (os error ";
@@ -111,13 +112,15 @@ impl<R: Read + Drop> Read for Named<'_, '_, R> {
     }
 }
 
-impl<W: Write + Drop> Write for Named<'_, '_, W> {
-    ghost contents = { λ n. W.contents n.device };
+impl<D: Device + Drop> Device for Named<'_, '_, D> {
+    ghost contents = { λ n. D.contents n.device };
+
+    ghost failed = { λ n. D.failed n.device };
 
     // A writer that takes nothing fails.
-    fn write(&mut self, buf: &[u8]) -> io::Result<usize> {
-        let result = match self.device.write(buf) {
-            Ok(0) if !buf.is_empty() => Err(Error::new(ErrorKind::WriteZero, "it takes no bytes")),
+    fn write_some(&mut self, bytes: &[u8]) -> io::Result<usize> {
+        let result = match self.device.write_some(bytes) {
+            Ok(0) if !bytes.is_empty() => Err(Error::new(ErrorKind::WriteZero, "it takes no bytes")),
             result => result,
         };
         if let Err(why) = &result {
@@ -126,11 +129,15 @@ impl<W: Write + Drop> Write for Named<'_, '_, W> {
         result
     }
 
-    fn flush(&mut self) -> io::Result<()> {
-        let result = self.device.flush();
+    fn hand_on(&mut self) -> io::Result<()> {
+        let result = self.device.hand_on();
         if let Err(why) = &result {
             self.write_fault(*why);
         }
         result
+    }
+
+    fn has_failed(&self) -> bool {
+        self.device.has_failed()
     }
 }

@@ -1,10 +1,11 @@
 // What the program wants of its system: the inputs that words name, and EVENTS.
 
-ghost use Rattle.std.specs.Prelude.{◌≡◌, Bool, true, IfOk, List, ℕ, None, Option, Some, ⊤};
+ghost use Rattle.std.specs.Prelude.{◌≡◌, Bool, true, IfOk, OnErr, List, ℕ, None, Option, Some, ⊤};
 ghost use Rattle.std.specs.Io.{WritesAtMost};
 ghost use Rattle.std.specs.Io.KnownBytes.{Keeps, WriteAppends};
 ghost use Rattle.camac_tool.specs.Apart.{IsApartFrom, Opens, Words, words_of};
 ghost use Rattle.camac_tool.specs.declared.host.FileId.{FileId};
+ghost use Rattle.camac_word.specs.Watched.{is_write_failure};
 
 use std::io;
 use std::io::Read;
@@ -81,39 +82,50 @@ pub trait Host {
     /// The EVENTS that was made for the words is on its disk, and holds this.
     ghost saved: { Self → Words → Option (List ℕ) → Bool } = { λ _ _ _. true };
 
+    /// Whether a call of it fails.
+    ghost fails: { Self → Bool } = { λ _. true };
+
     /// Takes the places of standard streams that are closed, for as long as the result lives.
-    fn hold_places(&self) -> io::Result<Self::Places>;
+    fn hold_places(&self) -> io::Result<Self::Places>
+        ensures { OnErr result (fails self.now ≡ true) };
 
     /// The input that a word names: `@in` is standard input, and any other word a file.
     fn open(&self, word: &str) -> io::Result<Self::Input>
         ensures bytes { IfOk result (λ input. Keeps (bytes_of self.now word.now) (Self.Input.remaining input)) }
-        ensures file { IfOk result (λ input. Opens (finds self.now) (reads self.now input) word.now) };
+        ensures file { IfOk result (λ input. Opens (finds self.now) (reads self.now input) word.now) }
+        ensures fails { OnErr result (fails self.now ≡ true) };
 
     /// Opens EVENTS, and empties it. The words' files were compared before.
     fn make(&self, words: &RunWords<'_>) -> io::Result<Self::Events>
         requires { ∥ IsApartFrom (finds self.now) (words_of words.now) ∥₁ }
         ensures made { IfOk result (λ events. made self.now (words_of words.now) events ≡ true) }
-        ensures bytes { IfOk result (λ events. holds events ≡ begun self.now) };
+        ensures bytes { IfOk result (λ events. holds events ≡ begun self.now) }
+        ensures fails { OnErr result (fails self.now ≡ true) };
 
-    /// Writes bytes to EVENTS, as `write` does.
+    /// Writes bytes to EVENTS, as `write` does. It has failed also where it took nothing.
     fn put(&self, events: &mut Self::Events, bytes: &[u8]) -> io::Result<usize>
         ensures made { (w : Words) → made self.now w events.old ≡ true → made self.now w events.new ≡ true }
         ensures bound { WritesAtMost result bytes.now }
-        ensures bytes { WriteAppends (holds events.old) (holds events.new) result bytes.now };
+        ensures bytes { WriteAppends (holds events.old) (holds events.new) result bytes.now }
+        ensures fails { is_write_failure result bytes.now ≡ true → fails self.now ≡ true };
 
     /// Waits until EVENTS is on its disk, where it is a regular file.
     fn sync(&self, events: &Self::Events) -> io::Result<()>
-        ensures { IfOk result (λ _. (w : Words) → made self.now w events.now ≡ true → saved self.now w (holds events.now) ≡ true) };
+        ensures saved { IfOk result (λ _. (w : Words) → made self.now w events.now ≡ true → saved self.now w (holds events.now) ≡ true) }
+        ensures fails { OnErr result (fails self.now ≡ true) };
 
     /// The file of a name, if there is one that can be the same as another.
     fn find(&self, name: &str) -> io::Result<Option<FileId>>
-        ensures { IfOk result (finds self.now name.now) };
+        ensures found { IfOk result (finds self.now name.now) }
+        ensures fails { OnErr result (fails self.now ≡ true) };
 
     /// The file of a name.
     fn id_at(&self, name: &str) -> io::Result<FileId>
-        ensures { IfOk result (λ file. finds self.now name.now (Some file)) };
+        ensures found { IfOk result (λ file. finds self.now name.now (Some file)) }
+        ensures fails { OnErr result (fails self.now ≡ true) };
 
     /// The file that an input reads.
     fn id_of(&self, input: &Self::Input) -> io::Result<FileId>
-        ensures { IfOk result (reads self.now input.now) };
+        ensures file { IfOk result (reads self.now input.now) }
+        ensures fails { OnErr result (fails self.now ≡ true) };
 }

@@ -3,6 +3,7 @@
 
 mod ahead;
 mod answer_line;
+mod device;
 mod devices;
 mod failure;
 mod gathered;
@@ -10,6 +11,7 @@ mod host;
 mod input;
 mod launch;
 pub mod laws;
+mod live;
 mod program;
 mod running;
 mod streams;
@@ -21,6 +23,7 @@ pub use camac_engines::{
     engine_bounds, engine_check, engine_events, engine_plan, engine_response, sample_plan, status,
 };
 pub use camac_tool_words::{Job, JobFault, read_words};
+pub use device::Device;
 pub use devices::run_on_devices;
 pub use launch::{ArgumentsFault, arguments};
 pub use program::{exit_status, unread_status};

@@ -1,32 +1,37 @@
 // The program, from its words to its exit status.
 
-ghost use Rattle.std.specs.Prelude.{◌≡◌, IfOk, List, ℕ, Option, map, string_bytes};
+ghost use Rattle.std.specs.Prelude.{◌≡◌, ◌⊎◌, IfOk, List, ℕ, Option, map, string_bytes, true};
 ghost use Rattle.std.specs.Io.KnownBytes.{Keeps};
 ghost use Rattle.clap.specs.Words.{kind_of};
-ghost use Rattle.camac_tool.specs.Apart.{IsApartFrom, words_of};
+ghost use Rattle.camac_tool.specs.Apart.{IsApartFrom, IsTakenBy, words_of};
 ghost use Rattle.camac_tool.specs.Input.{IsInputOf, is_sample};
 ghost use Rattle.camac_tool.specs.Jobs.{DoesJob, DoesRun, Drives, EventsTell, ExplainsRule, HandsOn, IsSettled, PlanTells, Replies, Responds, ScriptTells, Tells};
+ghost use Rattle.camac_tool.specs.Causes.{CanFail, RunCanFail, held_fault};
 ghost use Rattle.camac_tool.specs.Saved.{IsKept, bytes_in};
 ghost use Rattle.camac_tool.specs.Status.{Ends, EndsAs, EndsJob, EndsMisuse, EndsUsage};
 ghost use Rattle.camac_tool.specs.declared.launch.ArgumentsFault.TheVariants.{Memory, NotText};
-ghost use Rattle.camac_word.specs.Watched.{inner_of};
+ghost use Rattle.camac_engines.specs.Engine.{is_write_fault};
+ghost use Rattle.camac_word.specs.Watched.{inner_of, has_failed};
 
+use crate::device::{Device, write_out};
 use crate::devices::run_on_devices;
 use crate::failure::{Failure, Named};
 use crate::gathered::Gathered;
 use crate::host::{Earlier, Host, RunWords};
 use crate::input::{open, open_plan, source_of};
 use crate::launch::ArgumentsFault;
-use crate::running::engine_drive;
+use crate::live::Live;
+use crate::running::run_over;
 use crate::target::{NewFile, Saving, keep_apart, settle};
 use camac_engines::{
     Ask, Outcome, PlanAsk, Responded, ToolFault, Turns, answer, answer_plan, engine_events,
     engine_explain_rule, engine_response, status,
 };
 use camac_explain::Rule;
+use camac_play::Telling;
 use camac_response::{Misuse, read_settings};
 use camac_tool_words::{Job, JobFault, read_words, setting_error};
-use camac_word::Watched;
+use camac_word::{Watched, WriteFault};
 use clap::Error;
 use clap::error::ErrorKind;
 use std::io::{Eprint, Print, Write};
@@ -47,15 +52,16 @@ const OF_PACKAGE: [&str; 11] = [
 const OF_CHECK: [&str; 5] = ["--strict", "--write", "--keeps", "--json", "--format"];
 
 /// Does what the words after the program's name ask for. Returns the exit status: 0 or 1 by the outcome, 2 where the words ask for nothing
-/// that is there, 3 for a fault, and 141 where a pipe was written that its reader closed. What a job tells goes to `out`, which is returned.
-/// Help and version go to standard output, and end with 0. A fault is a line on standard error, and below it its file and the reason.
+/// that is there, 3 for a fault, and 141 where a pipe was written that its reader closed. What a job tells goes to `out`, which is returned,
+/// and of which it is told whether a call has failed. Help and version go to standard output, and end with 0. A fault is a line on standard error, and below it its file and the reason.
 pub fn exit_status<R: Host + Print + Eprint + AllocGlobal, W: Write + Drop>(
     rt: &R,
     words: &[String],
     out: W,
-) -> (u8, W)
-    ensures { Ends (R.bytes_of rt.now) (R.finds rt.now) (R.begun rt.now) (R.saved rt.now) (map string_bytes words.now) (W.contents out) (W.contents result.1) result.0 }
+) -> (u8, Watched<W>)
+    ensures { Ends (R.bytes_of rt.now) (R.finds rt.now) (R.begun rt.now) (R.saved rt.now) (R.fails rt.now) (map string_bytes words.now) (W.contents out) (W.contents (inner_of result.1)) (has_failed result.1) result.0 }
 {
+    let out = Watched::new(out);
     let failure = Failure::none();
     let tool = Tool {
         rt,
@@ -103,7 +109,6 @@ pub enum Question<'a> {
     /// What is known at a line and a column, in turns.
     Known(u32, u32, Vec<u32>, &'a str, &'a str),
     Response(&'a str, &'a str, Vec<&'a str>, Vec<&'a str>),
-    Events(&'a str),
 }
 
 // What the functions of a job share.
@@ -114,8 +119,8 @@ struct Tool<'r, 'f, 'a, R> {
 }
 
 impl<'r, 'f, 'a, R: Host + Print + Eprint + AllocGlobal> Tool<'r, 'f, 'a, R> {
-    fn serve<W: Write + Drop>(&self, job: Job<'a>, out: W) -> (u8, W)
-        ensures { EndsJob (R.bytes_of self.now.rt.now) (R.finds self.now.rt.now) (R.begun self.now.rt.now) (R.saved self.now.rt.now) job.entry (W.contents out) (W.contents result.1) result.0 }
+    fn serve<D: Device + Drop>(&self, job: Job<'a>, out: D) -> (u8, D)
+        ensures { EndsJob (R.bytes_of self.now.rt.now) (R.finds self.now.rt.now) (R.begun self.now.rt.now) (R.saved self.now.rt.now) (R.fails self.now.rt.now) job.entry (D.contents out) (D.contents result.1) (D.failed result.1) result.0 }
     {
         let is_swapped = is_swapped(&job);
         let (done, out) = self.do_job(job, Named::new(out, STANDARD_OUTPUT, self.failure));
@@ -125,8 +130,9 @@ impl<'r, 'f, 'a, R: Host + Print + Eprint + AllocGlobal> Tool<'r, 'f, 'a, R> {
         (self.finished(done), out.device)
     }
 
-    fn do_job<W: Write + Drop>(&self, job: Job<'a>, out: W) -> (Result<Done<'a>, ToolFault>, W)
-        ensures { DoesJob (R.bytes_of self.now.rt.now) (R.finds self.now.rt.now) (R.begun self.now.rt.now) (R.saved self.now.rt.now) job.entry (W.contents out) (W.contents result.1) result.0 }
+    fn do_job<D: Device + Drop>(&self, job: Job<'a>, out: D) -> (Result<Done<'a>, ToolFault>, D)
+        ensures does { DoesJob (R.bytes_of self.now.rt.now) (R.finds self.now.rt.now) (R.begun self.now.rt.now) (R.saved self.now.rt.now) job.entry (D.contents out) (D.contents result.1) result.0 }
+        ensures cause { is_write_fault result.0 ≡ true → CanFail (R.finds self.now.rt.now) (R.fails self.now.rt.now) job.entry (D.failed result.1) }
     {
         match job {
             Job::Plan(plan) => self.gather(Question::Plan(PlanAsk::Lines, plan), out),
@@ -145,51 +151,50 @@ impl<'r, 'f, 'a, R: Host + Print + Eprint + AllocGlobal> Tool<'r, 'f, 'a, R> {
             Job::Response(plan, script, every, within) => {
                 self.gather(Question::Response(plan, script, every, within), out)
             }
-            Job::Events(file) => self.gather(Question::Events(file), out),
+            Job::Events(file) => self.list_events(file, out),
             Job::Run(plan, script, answers, events) => {
                 let words = RunWords::new(plan, script, answers, events, Earlier::Emptied);
-                self.run::<Brand, W>(words, out)
+                self.run::<Brand, D>(words, out)
             }
             Job::Drive(plan, script, events) => {
                 let words = RunWords::new(plan, script, "@in", events, Earlier::Refused);
-                self.drive::<Brand, W>(words, out)
+                self.drive::<Brand, D>(words, out)
             }
         }
     }
 
-    fn ask<W: Write + Drop>(
+    fn ask<D: Device + Drop>(
         &self,
         ask: Ask<'a>,
         plan: &'a str,
         script: &'a str,
-        out: W,
-    ) -> (Result<Done<'a>, ToolFault>, W)
-        ensures { HandsOn (Tells (ScriptTells (R.bytes_of self.now.rt.now) plan.now script.now ask.entry)) (W.contents out) (W.contents result.1) result.0 }
+        out: D,
+    ) -> (Result<Done<'a>, ToolFault>, D)
+        ensures told { HandsOn (Tells (ScriptTells (R.bytes_of self.now.rt.now) plan.now script.now ask.entry)) (D.contents out) (D.contents result.1) result.0 }
+        ensures cause { is_write_fault result.0 ≡ true → D.failed result.1 ≡ true }
     {
         self.gather(Question::Script(ask, plan, script), out)
     }
 
-    // What is told is gathered before it goes out. What is held at a fault is lost.
-    fn gather<W: Write + Drop>(
+    // What is told is held until all of it is known, so that no fault but one of the output comes after its first byte.
+    fn gather<D: Device + Drop>(
         &self,
         question: Question<'a>,
-        out: W,
-    ) -> (Result<Done<'a>, ToolFault>, W)
-        ensures { HandsOn (Replies (R.bytes_of self.now.rt.now) question.entry) (W.contents out) (W.contents result.1) result.0 }
+        mut out: D,
+    ) -> (Result<Done<'a>, ToolFault>, D)
+        ensures told { HandsOn (Replies (R.bytes_of self.now.rt.now) question.entry) (D.contents out) (D.contents result.1) result.0 }
+        ensures cause { is_write_fault result.0 ≡ true → D.failed result.1 ≡ true }
     {
-        let mut out = match Gathered::new(self.rt.alloc(), out) {
-            Ok(out) => Watched::new(out),
-            Err(out) => return (Err(ToolFault::Memory), out),
+        let mut text = Watched::new(Vec::new(self.rt.alloc()));
+        let done = match self.reply(question, &mut text) {
+            Ok(done) => done,
+            Err(fault) => return (Err(held_fault(fault)), out),
         };
-        let done = self.reply(question, &mut out);
-        let mut out = out.into_inner();
-        match done {
-            Ok(done) => match out.flush() {
-                Ok(()) => (Ok(done), out.into_inner()),
-                Err(_) => (Err(ToolFault::Write), out.into_inner()),
-            },
-            Err(fault) => (Err(fault), out.into_inner()),
+        let (_, written) = write_out(&text.into_inner(), &mut out);
+        if written.is_err() || out.hand_on().is_err() {
+            return (Err(ToolFault::Write), out);
         }
+        (Ok(done), out)
     }
 
     fn reply<W: Write>(
@@ -214,7 +219,6 @@ impl<'r, 'f, 'a, R: Host + Print + Eprint + AllocGlobal> Tool<'r, 'f, 'a, R> {
             Question::Response(plan, script, every, within) => {
                 self.respond(plan, script, &every, &within, out)
             }
-            Question::Events(file) => self.list_events(file, out),
         }
     }
 
@@ -269,7 +273,30 @@ impl<'r, 'f, 'a, R: Host + Print + Eprint + AllocGlobal> Tool<'r, 'f, 'a, R> {
         }
     }
 
-    fn list_events<W: Write>(
+    // The lines of a file may be many. They go out while they are made, and are gathered; what is held at a fault is lost.
+    fn list_events<D: Device + Drop>(
+        &self,
+        file: &'a str,
+        out: D,
+    ) -> (Result<Done<'a>, ToolFault>, D)
+        ensures { HandsOn (Tells (EventsTell (R.bytes_of self.now.rt.now) file.now)) (D.contents out) (D.contents result.1) result.0 }
+    {
+        let mut out = match Gathered::new(self.rt.alloc(), out) {
+            Ok(out) => Watched::new(out),
+            Err(out) => return (Err(ToolFault::Memory), out),
+        };
+        let done = self.write_events(file, &mut out);
+        let mut out = out.into_inner();
+        match done {
+            Ok(done) => match out.flush() {
+                Ok(()) => (Ok(done), out.into_inner()),
+                Err(_) => (Err(ToolFault::Write), out.into_inner()),
+            },
+            Err(fault) => (Err(fault), out.into_inner()),
+        }
+    }
+
+    fn write_events<W: Write>(
         &self,
         file: &'a str,
         out: &mut Watched<W>,
@@ -282,31 +309,39 @@ impl<'r, 'f, 'a, R: Host + Print + Eprint + AllocGlobal> Tool<'r, 'f, 'a, R> {
     }
 
     // The text of a rule goes out in one write.
-    fn explain_rule<W: Write + Drop>(
+    fn explain_rule<D: Device + Drop>(
         &self,
         code: &'a str,
-        out: W,
-    ) -> (Result<Done<'a>, ToolFault>, W)
-        ensures { ExplainsRule code.now (W.contents out) (W.contents result.1) result.0 }
+        mut out: D,
+    ) -> (Result<Done<'a>, ToolFault>, D)
+        ensures told { ExplainsRule code.now (D.contents out) (D.contents result.1) result.0 }
+        ensures cause { is_write_fault result.0 ≡ true → D.failed result.1 ≡ true }
     {
         let Some(rule) = Rule::of_code(code) else {
             return (Ok(Done::NoCode(code)), out);
         };
-        let mut out = Watched::new(out);
-        match engine_explain_rule(self.rt.alloc(), rule, &mut out) {
-            Ok(outcome) => (Ok(Done::Answered(outcome)), out.into_inner()),
-            Err(fault) => (Err(fault), out.into_inner()),
+        let mut text = Watched::new(Vec::new(self.rt.alloc()));
+        let outcome = match engine_explain_rule(self.rt.alloc(), rule, &mut text) {
+            Ok(outcome) => outcome,
+            Err(fault) => return (Err(held_fault(fault)), out),
+        };
+        let (_, written) = write_out(&text.into_inner(), &mut out);
+        match written {
+            Ok(()) => (Ok(Done::Answered(outcome)), out),
+            Err(WriteFault) => (Err(ToolFault::Write), out),
         }
     }
 
-    fn run<K: Saving, W: Write + Drop>(
+    fn run<K: Saving, D: Device + Drop>(
         &self,
         words: RunWords<'a>,
-        out: W,
-    ) -> (Result<Done<'a>, ToolFault>, W)
+        out: D,
+    ) -> (Result<Done<'a>, ToolFault>, D)
         requires begun { R.begun self.now.rt.now ≡ K.begun }
         requires saves { (bytes : Option (List ℕ)) → R.saved self.now.rt.now (words_of words) bytes ≡ K.saves bytes }
-        ensures { DoesRun (R.bytes_of self.now.rt.now) (R.finds self.now.rt.now) K.begun (words_of words.entry) K.saves (W.contents out) (W.contents result.1) result.0 }
+        requires fails { R.fails self.now.rt.now ≡ K.fails }
+        ensures does { DoesRun (R.bytes_of self.now.rt.now) (R.finds self.now.rt.now) K.begun (words_of words.entry) K.saves (D.contents out) (D.contents result.1) result.0 }
+        ensures cause { is_write_fault result.0 ≡ true → RunCanFail (R.finds self.now.rt.now) K.fails (words_of words.entry) (D.failed result.1) }
     {
         let (plan, script, lines) = match self.open_run(&words) {
             Ok(inputs) => inputs,
@@ -329,14 +364,16 @@ impl<'r, 'f, 'a, R: Host + Print + Eprint + AllocGlobal> Tool<'r, 'f, 'a, R> {
     }
 
     // A request goes out in one write to a writer that keeps nothing back, and no answer is read ahead of its request.
-    fn drive<K: Saving, W: Write + Drop>(
+    fn drive<K: Saving, D: Device + Drop>(
         &self,
         words: RunWords<'a>,
-        out: W,
-    ) -> (Result<Done<'a>, ToolFault>, W)
+        out: D,
+    ) -> (Result<Done<'a>, ToolFault>, D)
         requires begun { R.begun self.now.rt.now ≡ K.begun }
         requires saves { (bytes : Option (List ℕ)) → R.saved self.now.rt.now (words_of words) bytes ≡ K.saves bytes }
-        ensures { Drives (R.bytes_of self.now.rt.now) (R.finds self.now.rt.now) K.begun (words_of words.entry) K.saves (W.contents out) (W.contents result.1) result.0 }
+        requires fails { R.fails self.now.rt.now ≡ K.fails }
+        ensures does { Drives (R.bytes_of self.now.rt.now) (R.finds self.now.rt.now) K.begun (words_of words.entry) K.saves (D.contents out) (D.contents result.1) result.0 }
+        ensures cause { is_write_fault result.0 ≡ true → RunCanFail (R.finds self.now.rt.now) K.fails (words_of words.entry) (D.failed result.1) }
     {
         let (plan, script, answers) = match self.open_run(&words) {
             Ok(inputs) => inputs,
@@ -344,17 +381,22 @@ impl<'r, 'f, 'a, R: Host + Print + Eprint + AllocGlobal> Tool<'r, 'f, 'a, R> {
         };
         let events = words.events;
         let file = NewFile::<'_, R, K>::named(self.rt, words);
-        let mut file = Watched::new(Named::new(file, events, self.failure));
-        let mut out = Watched::new(out);
-        let outcome = engine_drive(
+        let mut io = Live {
+            answers: Watched::new(answers),
+            requests: out,
+            records: Named::new(file, events, self.failure),
+        };
+        let outcome = run_over(
             self.rt.alloc(),
+            Telling::Requests,
             &mut source_of(plan),
             &mut Watched::new(script),
-            &mut Watched::new(answers),
-            &mut out,
-            &mut file,
+            &mut io,
         );
-        (settled(outcome, &file.into_inner()), out.into_inner())
+        let Live {
+            requests, records, ..
+        } = io;
+        (settled(outcome, &records), requests)
     }
 
     // The plan, the script and the answers of a run, none of which is EVENTS.
@@ -373,6 +415,7 @@ impl<'r, 'f, 'a, R: Host + Print + Eprint + AllocGlobal> Tool<'r, 'f, 'a, R> {
         ensures script { IfOk result (λ inputs. Keeps (R.bytes_of self.now.rt.now words.now.script.now) (R.Input.remaining inputs.1.device)) }
         ensures answers { IfOk result (λ inputs. Keeps (R.bytes_of self.now.rt.now words.now.answers.now) (R.Input.remaining inputs.2.device)) }
         ensures apart { IfOk result (λ _. IsApartFrom (R.finds self.now.rt.now) (words_of words.now)) }
+        ensures cause { is_write_fault result ≡ true → (R.fails self.now.rt.now ≡ true) ⊎ IsTakenBy (R.finds self.now.rt.now) (words_of words.now) }
     {
         let plan = open_plan(self.rt, self.failure, words.plan)?;
         let script = open(self.rt, self.failure, words.script)?;
@@ -481,6 +524,16 @@ fn meant_by(words: &[String]) -> Option<(&'static str, &str)> {
     }
 }
 
+// The fault of an engine that writes to memory, where a write fails only if that runs out.
+fn held_fault(fault: ToolFault) -> ToolFault
+    ensures { result ≡ held_fault fault }
+{
+    match fault {
+        ToolFault::Write => ToolFault::Memory,
+        fault => fault,
+    }
+}
+
 // Of a run that came to its end the event file is waited for.
 fn settled<'a, R: Host, K: Saving>(
     outcome: Result<Outcome, ToolFault>,
@@ -488,6 +541,7 @@ fn settled<'a, R: Host, K: Saving>(
 ) -> Result<Done<'a>, ToolFault>
     ensures ended { IsSettled outcome result }
     ensures saved { IfOk result (λ _. IsKept K.begun K.saves (bytes_in K.begun R.holds events.now.device.file)) }
+    ensures cause { is_write_fault result ≡ true → (is_write_fault outcome ≡ true) ⊎ (K.fails ≡ true) }
 {
     let outcome = outcome?;
     settle(events)?;

@@ -8,10 +8,11 @@ ghost use Rattle.camac_tool.specs.Gathered.{device_of, given_to, has_stopped};
 ghost use Rattle.camac_tool.specs.Devices.{IsHandedOn, before};
 ghost use Rattle.camac_tool.specs.Streams.{answers_of, behind, listing_of, records_of, has_failed_ahead, have_stopped, left_ahead, run_state, HoldNothing};
 ghost use Rattle.camac_play.specs.Play.{is_read_fault, is_write_fault};
-ghost use Rattle.camac_word.specs.Watched.{inner_of, has_failed};
+ghost use Rattle.camac_engines.specs.Engine.{is_write_fault as is_fault_of_write};
 
 use crate::ahead::Ahead;
 use crate::answer_line::AnswerLine;
+use crate::device::Device;
 use crate::gathered::Gathered;
 use camac_answer::fill;
 use camac_check::Checked;
@@ -43,16 +44,16 @@ pub struct Streams<R: Read + Drop, W: Drop, E: Drop> {
     refused: Option<AnswerLine>,
 }
 
-impl<R: Read + Drop, W: Drop, E: Drop> Streams<R, W, E> {
+impl<R: Read + Drop, W: Device + Drop, E: Device + Drop> Streams<R, W, E> {
     /// Whether a call of either output has failed so far.
     pub fn failed(&self) -> bool
-        ensures { result ≡ have_stopped self.now }
+        ensures { result ≡ have_stopped W.failed E.failed self.now }
     {
         self.listing.failed() || self.records.failed()
     }
 }
 
-impl<R: Read + Drop, W: Write + Drop, E: Write + Drop> Streams<R, W, E> {
+impl<R: Read + Drop, W: Device + Drop, E: Device + Drop> Streams<R, W, E> {
     /// Nothing was read yet, and nothing is held. Where memory is out both outputs come back.
     pub fn new(
         alloc: Global,
@@ -60,7 +61,7 @@ impl<R: Read + Drop, W: Write + Drop, E: Write + Drop> Streams<R, W, E> {
         listing: W,
         records: E,
     ) -> Result<Streams<R, W, E>, (W, E)>
-        ensures works { IfOk result (λ s. run_state R.remaining W.contents E.contents s ≡ before (R.remaining answers) (W.contents listing) (E.contents records)) }
+        ensures works { IfOk result (λ s. run_state R.remaining W.contents W.failed E.contents E.failed s ≡ before (R.remaining answers) (W.contents listing) (E.contents records) (W.failed listing || E.failed records)) }
         ensures memory { IfErr result (λ outputs. (outputs.0 ≡ listing) × (outputs.1 ≡ records)) }
     {
         let Ok(answers) = Ahead::new(alloc, answers) else {
@@ -87,9 +88,9 @@ impl<R: Read + Drop, W: Write + Drop, E: Write + Drop> Streams<R, W, E> {
         ensures answers { answers_of self.new ≡ answers_of self.old }
         ensures listing { Keeps (given_to W.contents (listing_of self.old)) (given_to W.contents (listing_of self.new)) }
         ensures records { Keeps (given_to E.contents (records_of self.old)) (given_to E.contents (records_of self.new)) }
-        ensures order { has_stopped (listing_of self.new) ≡ true → records_of self.new ≡ records_of self.old }
-        ensures failed { have_stopped self.new ≡ (have_stopped self.old || is_err result) }
-        ensures stopped { have_stopped self.old ≡ true → (is_err result ≡ true) × (self.new ≡ self.old) }
+        ensures order { has_stopped W.failed (listing_of self.new) ≡ true → records_of self.new ≡ records_of self.old }
+        ensures failed { have_stopped W.failed E.failed self.new ≡ (have_stopped W.failed E.failed self.old || is_err result) }
+        ensures stopped { have_stopped W.failed E.failed self.old ≡ true → (is_err result ≡ true) × (self.new ≡ self.old) }
     {
         if self.failed() || self.listing.flush().is_err() || self.records.flush().is_err() {
             return Err(WriteFault);
@@ -99,7 +100,8 @@ impl<R: Read + Drop, W: Write + Drop, E: Write + Drop> Streams<R, W, E> {
 
     /// Hands on all that was given at the end of a run, and returns both outputs. One that fails is a write fault.
     pub fn finish(mut self, outcome: Result<Outcome, ToolFault>) -> Ran<W, E>
-        ensures { IsHandedOn (run_state R.remaining W.contents E.contents self) (W.contents result.listing) (E.contents result.records) outcome result.outcome }
+        ensures handed { IsHandedOn (run_state R.remaining W.contents W.failed E.contents E.failed self) (W.contents result.listing) (E.contents result.records) outcome result.outcome }
+        ensures failed { have_stopped W.failed E.failed self ≡ is_fault_of_write outcome → (W.failed result.listing || E.failed result.records) ≡ is_fault_of_write result.outcome }
     {
         let outcome = match self.hand_on() {
             Ok(()) => outcome,
@@ -126,7 +128,7 @@ impl<R: Read + Drop, W: Write + Drop, E: Write + Drop> Streams<R, W, E> {
         ensures listing { Keeps (given_to W.contents (listing_of self.old)) (given_to W.contents (listing_of self.new)) }
         ensures records { Keeps (given_to E.contents (records_of self.old)) (given_to E.contents (records_of self.new)) }
         ensures in_failed { has_failed_ahead (answers_of self.new) ≡ (has_failed_ahead (answers_of self.old) || is_read_fault result) }
-        ensures out_failed { have_stopped self.new ≡ (have_stopped self.old || is_write_fault result) }
+        ensures out_failed { have_stopped W.failed E.failed self.new ≡ (have_stopped W.failed E.failed self.old || is_write_fault result) }
     {
         if self.answers.take_line(line) {
             return Ok(line.len());
@@ -141,8 +143,8 @@ impl<R: Read + Drop, W: Write + Drop, E: Write + Drop> Streams<R, W, E> {
     }
 }
 
-impl<R: Read + Drop, W: Write + Drop, E: Write + Drop> RunIo for Streams<R, W, E> {
-    ghost state = { run_state R.remaining W.contents E.contents };
+impl<R: Read + Drop, W: Device + Drop, E: Device + Drop> RunIo for Streams<R, W, E> {
+    ghost state = { run_state R.remaining W.contents W.failed E.contents E.failed };
 
     #[inline(always)]
     fn read_line(&mut self, line: &mut [u8]) -> Result<usize, PlayFault> {

@@ -1,16 +1,20 @@
 // The event file of a run. Nothing but an older event file is lost by it, and no run ends well before it is on the disk.
 
-ghost use Rattle.std.specs.Prelude.{◌≡◌, ◌↔◌, ℕ, Bool, true, false, List, Option, None, IfErr, IfOk, IsOk, IsOkAnd};
+ghost use Rattle.std.specs.Prelude.{◌≡◌, ◌⊎◌, ◌↔◌, ℕ, Bool, true, false, List, Option, None, IfErr, IfOk, IsOk, IsOkAnd, OnErr, codes};
+ghost use Rattle.std.specs.Io.{WritesAtMost};
+ghost use Rattle.std.specs.Io.KnownBytes.{WriteAppends};
 ghost use Rattle.std.specs.Option.{ForSome};
-ghost use Rattle.camac_tool.specs.Apart.{Differs, DiffersFromOutputs, IsApart, IsApartFrom, PlanDiffers, is_same, words_of};
+ghost use Rattle.camac_tool.specs.Apart.{Differs, DiffersFromOutputs, IsApart, IsApartFrom, IsNamed, IsTaken, Meets, PlanDiffers, PlanMeets, is_same, words_of};
 ghost use Rattle.camac_tool.specs.Saved.{IsKept, bytes_in};
 ghost use Rattle.camac_engines.specs.declared.fault.ToolFault.TheVariants.{Write as write-fault};
+ghost use Rattle.camac_word.specs.Watched.{is_write_failure};
 
+use crate::device::Device;
 use crate::failure::{Failure, Named};
 use crate::host::{FileId, Host, RunWords};
 use camac_engines::ToolFault;
 use std::io;
-use std::io::{Error, Write};
+use std::io::Error;
 use std::marker::{Brand, PhantomData};
 
 /// The names under which the system has the files behind standard output and standard error.
@@ -30,6 +34,8 @@ pub fn keep_apart<'a, H: Host>(
     ensures apart { IfOk result (λ _. IsApart (H.finds host.now) name.now (λ file.
         PlanDiffers (λ i. H.reads host.now i.device) plan.now file × Differs (H.reads host.now script.now.device) file × Differs (H.reads host.now answers.now.device) file)) }
     ensures fault { IfErr result (λ fault. fault ≡ write-fault) }
+    ensures cause { OnErr result ((H.fails host.now ≡ true) ⊎ IsTaken (H.finds host.now) name.now (λ file.
+        PlanMeets (λ i. H.reads host.now i.device) plan.now file ⊎ (Meets (H.reads host.now script.now.device) file ⊎ Meets (H.reads host.now answers.now.device) file))) }
 {
     let file = match host.find(name) {
         Ok(Some(file)) => file,
@@ -62,6 +68,8 @@ impl<'a> There<'_, 'a> {
     fn is_no_output<H: Host>(&self, host: &H) -> Result<(), ToolFault>
         ensures outputs { IfOk result (λ _. DiffersFromOutputs (H.finds host.now) self.now.file) }
         ensures fault { IfErr result (λ fault. fault ≡ write-fault) }
+        ensures cause { OnErr result ((H.fails host.now ≡ true)
+            ⊎ (IsNamed (H.finds host.now) (codes "/proc/self/fd/1") self.now.file ⊎ IsNamed (H.finds host.now) (codes "/proc/self/fd/2") self.now.file)) }
     {
         self.differs(OUTPUT, host.id_at(OUTPUT), "it is standard output")?;
         self.differs(ERRORS, host.id_at(ERRORS), "it is standard error")
@@ -70,6 +78,7 @@ impl<'a> There<'_, 'a> {
     fn is_not<H: Host>(&self, host: &H, input: &Named<'_, 'a, H::Input>) -> Result<(), ToolFault>
         ensures input { IfOk result (λ _. Differs (H.reads host.now input.now.device) self.now.file) }
         ensures fault { IfErr result (λ fault. fault ≡ write-fault) }
+        ensures cause { OnErr result ((H.fails host.now ≡ true) ⊎ Meets (H.reads host.now input.now.device) self.now.file) }
     {
         self.differs(input.name, host.id_of(&input.device), "it is an input")
     }
@@ -94,17 +103,22 @@ impl<'a> There<'_, 'a> {
     }
 }
 
-/// For the proof of a run alone: what EVENTS holds when it is made, and what of it is known to be on the disk.
+/// For the proof of a run alone: what EVENTS holds when it is made, what of it is known to be on the disk, and whether a call of the host
+/// fails.
 pub trait Saving {
     ghost begun: { Option (List ℕ) };
 
     ghost saves: { Option (List ℕ) → Bool };
+
+    ghost fails: { Bool };
 }
 
 impl Saving for Brand {
     ghost begun = { None };
 
     ghost saves = { λ _. true };
+
+    ghost fails = { true };
 }
 
 /// EVENTS, which is opened at the first write to it. That is of the header, when the event file is begun.
@@ -113,10 +127,13 @@ pub struct NewFile<'a, H: Host, K: Saving> {
     host: &'a H,
     words: RunWords<'a>,
     file: Option<H::Events>,
+    failed: bool,
     of: PhantomData<K>,
     ghost apart: { ∥ IsApartFrom (H.finds host.now) (words_of words) ∥₁ },
     ghost begun: { H.begun host.now ≡ K.begun },
     ghost saves: { (bytes : Option (List ℕ)) → H.saved host.now (words_of words) bytes ≡ K.saves bytes },
+    ghost fails: { H.fails host.now ≡ K.fails },
+    ghost cause: { failed ≡ true → K.fails ≡ true },
     ghost made: { ForSome file (λ f. H.made host.now (words_of words) f ≡ true) },
 }
 
@@ -125,33 +142,58 @@ impl<'a, H: Host, K: Saving> NewFile<'a, H, K> {
         requires apart { IsApartFrom (H.finds host.now) (words_of words) }
         requires begun { H.begun host.now ≡ K.begun }
         requires saves { (bytes : Option (List ℕ)) → H.saved host.now (words_of words) bytes ≡ K.saves bytes }
-        ensures { result.file ≡ None }
+        requires fails { H.fails host.now ≡ K.fails }
+        ensures none { result.file ≡ None }
+        ensures works { result.failed ≡ false }
     {
         NewFile {
             host,
             words,
             file: None,
+            failed: false,
             of: PhantomData,
         }
     }
-}
 
-impl<H: Host, K: Saving> Write for NewFile<'_, H, K> {
-    ghost contents = { λ n. bytes_in K.begun H.holds n.file };
-
-    fn write(&mut self, buf: &[u8]) -> io::Result<usize> {
+    // Writes to the file, which is made first where it was not opened yet.
+    fn put(&mut self, bytes: &[u8]) -> io::Result<usize>
+        ensures bound { WritesAtMost result bytes.now }
+        ensures bytes { WriteAppends (bytes_in K.begun H.holds self.old.file) (bytes_in K.begun H.holds self.new.file) result bytes.now }
+        ensures same { self.new.failed ≡ self.old.failed }
+        ensures cause { is_write_failure result bytes.now ≡ true → K.fails ≡ true }
+    {
         if let Some(file) = &mut self.file {
-            return self.host.put(file, buf);
+            return self.host.put(file, bytes);
         }
         let mut file = self.host.make(&self.words)?;
-        let written = self.host.put(&mut file, buf);
+        let written = self.host.put(&mut file, bytes);
         self.file = Some(file);
         written
     }
+}
+
+impl<H: Host, K: Saving> Device for NewFile<'_, H, K> {
+    ghost contents = { λ n. bytes_in K.begun H.holds n.file };
+
+    ghost failed = { λ n. n.failed };
+
+    fn write_some(&mut self, bytes: &[u8]) -> io::Result<usize> {
+        let result = self.put(bytes);
+        let took_nothing = match &result {
+            Ok(taken) => *taken == 0 && !bytes.is_empty(),
+            Err(_) => true,
+        };
+        self.failed = self.failed || took_nothing;
+        result
+    }
 
     // Nothing is held back.
-    fn flush(&mut self) -> io::Result<()> {
+    fn hand_on(&mut self) -> io::Result<()> {
         Ok(())
+    }
+
+    fn has_failed(&self) -> bool {
+        self.failed
     }
 }
 
@@ -161,6 +203,7 @@ pub fn settle<H: Host, K: Saving>(
 ) -> Result<(), ToolFault>
     ensures saved { IfOk result (λ _. IsKept K.begun K.saves (bytes_in K.begun H.holds events.now.device.file)) }
     ensures fault { IfErr result (λ fault. fault ≡ write-fault) }
+    ensures cause { OnErr result (K.fails ≡ true) }
 {
     let Some(file) = &events.device.file else {
         return Ok(());

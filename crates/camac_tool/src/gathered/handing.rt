@@ -8,61 +8,57 @@ ghost use Rattle.camac_event.specs.declared.event.Version.TheVariants.{Two};
 ghost use Rattle.camac_report.specs.Items.{item_text, unlock_texts};
 ghost use Rattle.camac_machine.specs.MachineState.{piece_of};
 ghost use Rattle.camac_tool.specs.Gathered.{device_of, given_to, has_stopped, held_in};
-ghost use Rattle.camac_word.specs.Watched.{inner_of, has_failed};
 ghost use Rattle.camac_word.specs.Writing.{Writes};
 
 use super::Gathered;
 use super::room::{ROOM, Room};
+use crate::device::{Device, Whole, write_out};
 use camac_check::Checked;
 use camac_event::{TextWriter, write_header};
 use camac_report::{LONGEST_LINE, Line};
 use camac_run::Item;
-use camac_word::{CrateNo, Watched, WriteFault};
+use camac_word::{CrateNo, WriteFault};
 use std::alloc::Global;
 use std::io;
 use std::io::{Error, ErrorKind, Write};
 
-impl<W: Drop> Gathered<W> {
+impl<W: Device + Drop> Gathered<W> {
     /// Nothing is held. Where memory is out the writer comes back.
     pub fn new(alloc: Global, inner: W) -> Result<Gathered<W>, W>
         ensures inner { IfOk result (λ g. device_of g ≡ inner) }
         ensures empty { IfOk result (λ g. held_in g ≡ []) }
-        ensures works { IfOk result (λ g. has_stopped g ≡ false) }
         ensures memory { IfErr result (λ same. same ≡ inner) }
     {
         match Room::new(alloc) {
-            Ok(room) => Ok(Gathered {
-                inner: Watched::new(inner),
-                room,
-            }),
+            Ok(room) => Ok(Gathered { inner, room }),
             Err(_) => Err(inner),
         }
     }
 
     /// Whether a call of the writer behind it has failed so far.
     pub fn failed(&self) -> bool
-        ensures { result ≡ has_stopped self.now }
+        ensures { result ≡ has_stopped W.failed self.now }
     {
-        self.inner.failed()
+        self.inner.has_failed()
     }
 
     /// The writer behind it. What is still held is lost.
     pub fn into_inner(self) -> W
         ensures { result ≡ device_of self }
     {
-        self.inner.into_inner()
+        self.inner
     }
 }
 
-impl<W: Write + Drop> Gathered<W> {
+impl<W: Device + Drop> Gathered<W> {
     // Hands on all that is held. What a failed call leaves stays held. The fault is small: an error of `std::io` would be laid out and
     // dropped at each write that this function is not called for.
     #[inline(never)]
     fn write_held(&mut self) -> Result<(), WriteFault>
-        requires works { has_stopped self.old ≡ false }
+        requires works { has_stopped W.failed self.old ≡ false }
         ensures empty { OnOk result (held_in self.new ≡ []) }
         ensures bytes { Keeps (given_to W.contents self.old) (given_to W.contents self.new) }
-        ensures failed { has_stopped self.new ≡ is_err result }
+        ensures failed { has_stopped W.failed self.new ≡ is_err result }
     {
         let (written, result) = write_out(self.room.as_slice(), &mut self.inner);
         self.room.remove_prefix(written);
@@ -75,8 +71,8 @@ impl<W: Write + Drop> Gathered<W> {
         requires { count ≤ ROOM }
         ensures room { OnOk result (length (held_in self.new) + count ≤ ROOM) }
         ensures bytes { Keeps (given_to W.contents self.old) (given_to W.contents self.new) }
-        ensures failed { has_stopped self.new ≡ (has_stopped self.old || is_err result) }
-        ensures stopped { has_stopped self.old ≡ true → (is_err result ≡ true) × (self.new ≡ self.old) }
+        ensures failed { has_stopped W.failed self.new ≡ (has_stopped W.failed self.old || is_err result) }
+        ensures stopped { has_stopped W.failed self.old ≡ true → (is_err result ≡ true) × (self.new ≡ self.old) }
     {
         if self.failed() {
             return Err(WriteFault);
@@ -89,12 +85,12 @@ impl<W: Write + Drop> Gathered<W> {
 
     /// Takes the header of an event file, and hands it on at once, with what is held before it.
     pub fn put_header(&mut self) -> Result<(), WriteFault>
-        requires works { has_stopped self.old ≡ false }
+        requires works { has_stopped W.failed self.old ≡ false }
         ensures text { Writes (given_to W.contents self.old) (given_to W.contents self.new) result (header Two) }
-        ensures failed { has_stopped self.new ≡ is_err result }
+        ensures failed { has_stopped W.failed self.new ≡ is_err result }
     {
         self.write_held()?;
-        write_header(&mut self.inner)
+        write_header(&mut Whole(&mut self.inner))
     }
 
     /// Takes the line of an item, and a line for each crate, at most seven, whose lockout was released after it: they are laid out where
@@ -108,8 +104,8 @@ impl<W: Write + Drop> Gathered<W> {
     ) -> Result<(), WriteFault>
         requires { length unlocks.now ≤ 7 }
         ensures text { Writes (given_to W.contents self.old) (given_to W.contents self.new) result (item_text checked.now.script (piece_of item.now) ++ unlock_texts unlocks.now) }
-        ensures failed { has_stopped self.new ≡ (has_stopped self.old || is_err result) }
-        ensures stopped { has_stopped self.old ≡ true → (is_err result ≡ true) × (self.new ≡ self.old) }
+        ensures failed { has_stopped W.failed self.new ≡ (has_stopped W.failed self.old || is_err result) }
+        ensures stopped { has_stopped W.failed self.old ≡ true → (is_err result ≡ true) × (self.new ≡ self.old) }
     {
         self.make_room(LONGEST_LINE)?;
         self.room.put_items(checked, item, unlocks);
@@ -120,8 +116,8 @@ impl<W: Write + Drop> Gathered<W> {
     pub fn put_line(&mut self, line: &Line) -> Result<(), WriteFault>
         requires { 0 < length line.now }
         ensures text { Writes (given_to W.contents self.old) (given_to W.contents self.new) result line.now }
-        ensures failed { has_stopped self.new ≡ (has_stopped self.old || is_err result) }
-        ensures stopped { has_stopped self.old ≡ true → (is_err result ≡ true) × (self.new ≡ self.old) }
+        ensures failed { has_stopped W.failed self.new ≡ (has_stopped W.failed self.old || is_err result) }
+        ensures stopped { has_stopped W.failed self.old ≡ true → (is_err result ≡ true) × (self.new ≡ self.old) }
     {
         self.make_room(line.len())?;
         self.room.put(line.as_bytes());
@@ -129,10 +125,10 @@ impl<W: Write + Drop> Gathered<W> {
     }
 }
 
-impl<W: Write + Drop> TextWriter for Gathered<W> {
+impl<W: Device + Drop> TextWriter for Gathered<W> {
     ghost contents = { given_to W.contents };
 
-    ghost failed = { has_stopped };
+    ghost failed = { has_stopped W.failed };
 
     fn put_text(&mut self, text: &[u8]) -> Result<(), WriteFault> {
         let mut rest = text;
@@ -146,7 +142,7 @@ impl<W: Write + Drop> TextWriter for Gathered<W> {
     }
 }
 
-impl<W: Write + Drop> Write for Gathered<W> {
+impl<W: Device + Drop> Write for Gathered<W> {
     ghost contents = { given_to W.contents };
 
     #[inline(always)]
@@ -154,8 +150,8 @@ impl<W: Write + Drop> Write for Gathered<W> {
         ensures bound { WritesAtMost result buf.now }
         ensures bytes { WriteAppends (given_to W.contents self.old) (given_to W.contents self.new) result buf.now }
         ensures some { IfOk result (λ taken. 0 < length buf.now → 0 < taken) }
-        ensures failed { has_stopped self.new ≡ (has_stopped self.old || is_err result) }
-        ensures stopped { has_stopped self.old ≡ true → (is_err result ≡ true) × (self.new ≡ self.old) }
+        ensures failed { has_stopped W.failed self.new ≡ (has_stopped W.failed self.old || is_err result) }
+        ensures stopped { has_stopped W.failed self.old ≡ true → (is_err result ≡ true) × (self.new ≡ self.old) }
     {
         if self.make_room(1).is_err() {
             return Err(stopped());
@@ -166,8 +162,8 @@ impl<W: Write + Drop> Write for Gathered<W> {
     fn flush(&mut self) -> io::Result<()>
         ensures bytes { Keeps (given_to W.contents self.old) (given_to W.contents self.new) }
         ensures empty { OnOk result (held_in self.new ≡ []) }
-        ensures failed { has_stopped self.new ≡ (has_stopped self.old || is_err result) }
-        ensures stopped { has_stopped self.old ≡ true → (is_err result ≡ true) × (self.new ≡ self.old) }
+        ensures failed { has_stopped W.failed self.new ≡ (has_stopped W.failed self.old || is_err result) }
+        ensures stopped { has_stopped W.failed self.old ≡ true → (is_err result ≡ true) × (self.new ≡ self.old) }
     {
         if self.failed() {
             return Err(stopped());
@@ -175,29 +171,11 @@ impl<W: Write + Drop> Write for Gathered<W> {
         if self.write_held().is_err() {
             return Err(stopped());
         }
-        self.inner.flush()
+        self.inner.hand_on()
     }
 }
 
 /// The error of each call that failed and of each that is not made.
 pub fn stopped() -> Error {
     Error::from(ErrorKind::Other)
-}
-
-// Writes until all is written or a write fails, and returns how many bytes were written.
-fn write_out<W: Write>(bytes: &[u8], to: &mut Watched<W>) -> (usize, Result<(), WriteFault>)
-    ensures bound { result.0 ≤ length bytes.now }
-    ensures all { OnOk result.1 (result.0 ≡ length bytes.now) }
-    ensures bytes { Appends (W.contents (inner_of to.old)) (W.contents (inner_of to.new)) (take result.0 bytes.now) }
-    ensures failed { has_failed to.new ≡ (has_failed to.old || is_err result.1) }
-{
-    let mut written = 0;
-    while written < bytes.len() {
-        match to.write(&bytes[written..]) {
-            Ok(0) => return (written, Err(WriteFault)),
-            Ok(n) => written += n,
-            Err(_) => return (written, Err(WriteFault)),
-        }
-    }
-    (written, Ok(()))
 }

@@ -1,5 +1,4 @@
 use Rattle.camac_report.specs.Items.{unlock_texts}
-use Rattle.camac_word.specs.Watched.{inner_of}
 use Rattle.camac_tool.proofs.Lines.{some_line, writes_nothing, taken}
 use Rattle.camac_tool.proofs.gathered.Gathered.put_items.Goals as goal
 
@@ -10,4 +9,4 @@ returns-in_err-make_room-clause-text g c =
 pub returns-clause-text : goal.returns-clause-text
 returns-clause-text g c =
     let before = c.make_room.new.self in
-    taken _ (g.W.Write.contents (inner_of before.inner)) before.room _ _ c.in_ok-make_room.ensures.bytes c.put_items.ensures
+    taken _ (g.W.Device.contents before.inner) before.room _ _ c.in_ok-make_room.ensures.bytes c.put_items.ensures

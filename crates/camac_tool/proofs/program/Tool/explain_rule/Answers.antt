@@ -1,9 +1,10 @@
-use Rattle.std.proofs.Common.{ap, Err}
+use Rattle.std.proofs.Common.{◌∙◌, sym}
 use Rattle.camac_engines.specs.Explain.{TellsRule}
-use Rattle.camac_tool.proofs.Ended.{tells_of, written_stopped}
+use Rattle.camac_tool.proofs.Held.{all_told, no_write, none_told, some_told}
 use Rattle.camac_tool.proofs.program.Tool.explain_rule.Goals as goal
 
-pub returns-in-Err : goal.returns-in-Err
-returns-in-Err g c =
-    let told = written_stopped (TellsRule c.in-Some.rule) _ _ c.in-Err.fault c.in-Err.ensures.tells in
-    (c.in-Some.rule, c.in-Some.ensures, tells_of (TellsRule c.in-Some.rule) _ _ _ _ (Err c.in-Err.fault) (ap g.W.Write.contents c.new-out.ensures.inner) (ap g.W.Write.contents c.into_inner-in-Err.ensures) told)
+pub returns-in-Err-clause-told : goal.returns-in-Err-clause-told
+returns-in-Err-clause-told g c = rw c.held_fault.ensures (c.in-Some.rule, c.in-Some.ensures, none_told (TellsRule c.in-Some.rule) (g.D.Device.contents c.args.out) c.in-Err.fault)
+
+pub returns-in-Err-clause-cause : goal.returns-in-Err-clause-cause
+returns-in-Err-clause-cause g c failed = no_write c.in-Err.fault (rw c.held_fault.ensures at failed)

@@ -1,39 +1,9 @@
-use Rattle.std.proofs.Common.{sym, subst, inl}
-use Rattle.std.proofs.KnownBytes.{Keeps-refl}
-use Rattle.camac_tool.specs.Gathered.{device_of, given_to, held_in}
-use Rattle.camac_tool.specs.Jobs.{Replies}
-use Rattle.camac_tool.proofs.Ended.{beginning, faulted, flushed, none_replied, not_flushed, started}
-use Rattle.camac_word.specs.Watched.{inner_of}
+use Rattle.std.proofs.Common.{◌∙◌, sym}
+use Rattle.camac_tool.proofs.Held.{handed, no_write, none_handed, not_handed}
 use Rattle.camac_tool.proofs.program.Tool.gather.Goals as goal
 
-pub returns-in-Err : goal.returns-in-Err
-returns-in-Err g c = rw c.in-Err.ensures.memory (_, inl (none_replied (g.R.Host.bytes_of c.args.self.now.rt.now) c.args.question _), beginning _ _ (Keeps-refl _))
+pub returns-in-Err-clause-told : goal.returns-in-Err-clause-told
+returns-in-Err-clause-told g c = rw c.held_fault.ensures (none_handed (g.R.Host.bytes_of c.args.self.now.rt.now) c.args.question (g.D.Device.contents c.args.out) c.in-Err.fault)
 
-pub returns-in-Err-flush : goal.returns-in-Err-flush
-returns-in-Err-flush g c =
-    let w = g.W.Write.contents in
-    let out = c.into_inner-out.result in
-    rw c.into_inner-in-Err-flush.ensures
-    (not_flushed (Replies (g.R.Host.bytes_of c.args.self.now.rt.now) c.args.question) (w c.args.out) (given_to w (inner_of c.new-out.result)) (given_to w out) (w (device_of c.flush.new.self)) (held_in c.flush.new.self)
-    (started w c.in-Ok.out (inner_of c.new-out.result) c.args.out c.new-out.ensures.inner c.in-Ok.ensures.inner c.in-Ok.ensures.empty) c.flush.ensures.bytes c.reply-done.result
-    (subst (λ x. Replies (g.R.Host.bytes_of c.args.self.now.rt.now) c.args.question (given_to w (inner_of c.new-out.result)) (given_to w x) c.reply-done.result) (sym c.into_inner-out.ensures) c.reply-done.ensures))
-
-pub returns-in-Err-done : goal.returns-in-Err-done
-returns-in-Err-done g c =
-    let w = g.W.Write.contents in
-    let out = c.into_inner-out.result in
-    let told = subst (λ x. Replies (g.R.Host.bytes_of c.args.self.now.rt.now) c.args.question (given_to w (inner_of c.new-out.result)) (given_to w x) c.reply-done.result) (sym c.into_inner-out.ensures) c.reply-done.ensures in
-    rw c.into_inner-in-Err-done.ensures
-    (faulted (Replies (g.R.Host.bytes_of c.args.self.now.rt.now) c.args.question) (w c.args.out) (given_to w (inner_of c.new-out.result)) (given_to w out) (w (device_of out)) (held_in out)
-    (started w c.in-Ok.out (inner_of c.new-out.result) c.args.out c.new-out.ensures.inner c.in-Ok.ensures.inner c.in-Ok.ensures.empty) (Keeps-refl (given_to w out)) c.in-Err-done.fault
-    (subst (λ r. Replies (g.R.Host.bytes_of c.args.self.now.rt.now) c.args.question (given_to w (inner_of c.new-out.result)) (given_to w out) r) c.in-Err-done.is told))
-
-pub returns-in-Ok-flush : goal.returns-in-Ok-flush
-returns-in-Ok-flush g c =
-    let w = g.W.Write.contents in
-    let out = c.into_inner-out.result in
-    let told = subst (λ x. Replies (g.R.Host.bytes_of c.args.self.now.rt.now) c.args.question (given_to w (inner_of c.new-out.result)) (given_to w x) c.reply-done.result) (sym c.into_inner-out.ensures) c.reply-done.ensures in
-    rw c.into_inner.ensures
-    (flushed (Replies (g.R.Host.bytes_of c.args.self.now.rt.now) c.args.question) (w c.args.out) (given_to w (inner_of c.new-out.result)) (given_to w out) (w (device_of c.flush.new.self)) (held_in c.flush.new.self)
-    (started w c.in-Ok.out (inner_of c.new-out.result) c.args.out c.new-out.ensures.inner c.in-Ok.ensures.inner c.in-Ok.ensures.empty) c.flush.ensures.bytes c.in-Ok-flush.ensures.empty c.in-Ok-done.done
-    (subst (λ r. Replies (g.R.Host.bytes_of c.args.self.now.rt.now) c.args.question (given_to w (inner_of c.new-out.result)) (given_to w out) r) c.in-Ok-done.is told))
+pub returns-in-Err-clause-cause : goal.returns-in-Err-clause-cause
+returns-in-Err-clause-cause g c failed = no_write c.in-Err.fault (rw c.held_fault.ensures at failed)

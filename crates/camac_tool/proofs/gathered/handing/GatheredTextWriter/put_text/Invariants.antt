@@ -5,8 +5,8 @@ use Rattle.camac_tool.proofs.gathered.handing.GatheredTextWriter.put_text.Given 
 
 abbrev pub invariant-loop-rest : goal.invariant-loop-rest
 invariant-loop-rest g l =
-    IsUnderWay l.text l.rest (given_to g.W.Write.contents l.initial.self) (given_to g.W.Write.contents l.self)
-    × (has_stopped l.self ≡ has_stopped l.initial.self)
+    IsUnderWay l.text l.rest (given_to g.W.Device.contents l.initial.self) (given_to g.W.Device.contents l.self)
+    × (has_stopped g.W.Device.failed l.self ≡ has_stopped g.W.Device.failed l.initial.self)
 
 abbrev pub decreases-loop-rest : goal.decreases-loop-rest
 decreases-loop-rest g l = length l.rest

@@ -2,11 +2,10 @@ use Rattle.std.proofs.Common.{◌≡◌, ◌<◌, ◌||◌, ◌-◌, ℕ, Bool, 
 use Rattle.std.proofs.Math.Bool.{or-false}
 use Rattle.std.proofs.lemmas.Bool.{ne_eqb}
 use Rattle.std.specs.Prelude.{◌&&◌, ◌==◌}
-use Rattle.camac_word.specs.Watched.{has_failed}
 use lib.Seq.{take-add, take-take}
 use Rattle.std.specs.Io.KnownBytes.{Appends}
 use Rattle.std.proofs.KnownBytes.{Appends-trans}
-use Rattle.camac_tool.proofs.gathered.handing.write_out.Goals as goal
+use Rattle.camac_tool.proofs.device.write_out.Goals as goal
 
 -- a write that took something has not failed
 took_some : (a b : Bool) (n : ℕ) (x : Bool) → 0 < n → a ≡ (b || (n == 0 && x)) → a ≡ b
@@ -24,5 +23,5 @@ loop-written-preserved g c =
     record {
       bound = omega arith;
       bytes = subst (Appends _ _) joined (Appends-trans _ _ _ _ _ before.bytes c.in-Ok.ensures.bytes);
-      failed = took_some (has_failed c.write.new.self) (has_failed c.loop-written.to) n _ (omega arith) c.in-Ok.ensures.failed ∙ before.failed;
+      failed = took_some (g.D.Device.failed c.write_some.new.self) (g.D.Device.failed c.loop-written.to) n _ (omega arith) c.in-Ok.ensures.failed ∙ before.failed;
     }

@@ -1,14 +1,13 @@
 -- `write_out` ends, since each turn writes some bytes, and what is written is in the writer.
 use Rattle.std.proofs.Common.{◌≡◌, ◌-◌, ◌≤◌, length, take}
 use Rattle.std.specs.Io.KnownBytes.{Appends}
-use Rattle.camac_word.specs.Watched.{inner_of, has_failed}
-use Rattle.camac_tool.proofs.gathered.handing.write_out.Given as goal
+use Rattle.camac_tool.proofs.device.write_out.Given as goal
 
 abbrev pub invariant-loop-written : goal.invariant-loop-written
 invariant-loop-written g l = record {
   bound : l.written ≤ length l.bytes;
-  bytes : Appends (g.W.Write.contents (inner_of l.initial.to)) (g.W.Write.contents (inner_of l.to)) (take l.written l.bytes);
-  failed : has_failed l.to ≡ has_failed l.initial.to;
+  bytes : Appends (g.D.Device.contents l.initial.to) (g.D.Device.contents l.to) (take l.written l.bytes);
+  failed : g.D.Device.failed l.to ≡ g.D.Device.failed l.initial.to;
 }
 
 abbrev pub decreases-loop-written : goal.decreases-loop-written

@@ -1,0 +1,96 @@
+-- What is told of a text that was held in memory, and then went out.
+use Rattle.std.proofs.Common.{◌≡◌, ◌<◌, ◌-◌, ℕ, Bool, true, false, List, [], ◌++◌, length, take, drop, Option, None, Some, refl, sym, ap, subst, ◌∙◌, inl, inr, append-nil, append_assoc, take-append-drop, take_all, arith}
+use Rattle.std.specs.Prelude.{Result, Ok, Err}
+use Rattle.std.specs.Io.KnownBytes.{Appends, Keeps, append_known}
+use Rattle.std.proofs.KnownBytes.{Appends-kept, Keeps-refl}
+use Rattle.std.proofs.lemmas.List.{length-drop}
+use Rattle.clap.specs.Words.{Text}
+use Rattle.camac_word.specs.Writing.{AppendsPrefix}
+use Rattle.camac_engines.specs.Engine.{IsWritten, is_write_fault}
+use Rattle.camac_engines.specs.declared.fault.ToolFault.{ToolFault}
+use Rattle.camac_engines.specs.declared.fault.ToolFault.TheVariants.{Read, Write, Memory, TooLong}
+use Rattle.camac_engines.specs.declared.outcome.Outcome.{Outcome}
+use Rattle.camac_response_times.specs.declared.setting.Misuse.{Misuse}
+use Rattle.camac_tool.proofs.Ended.{beginning, nothing_held}
+use Rattle.camac_tool.specs.Causes.{held_fault}
+use Rattle.camac_tool.specs.Devices.{HasBeginning}
+use Rattle.camac_tool.specs.Jobs.{HandsOn, Replies, Tells, TellsUnless}
+use Rattle.camac_tool.specs.declared.program.Done.{Done}
+use Rattle.camac_tool.specs.declared.program.Done.TheVariants.{Answered, Misused, NoCode}
+use Rattle.camac_tool.specs.declared.program.Question.{Question}
+use Rattle.camac_tool.specs.declared.program.Question.TheVariants as question
+
+-- a fault of an engine that writes to memory is none of a writer
+pub no_write : {T : Type 0} {X : Type 0} (e : ToolFault) → is_write_fault {T = T} (Err (held_fault e)) ≡ true → X
+no_write Write is = let no : false ≡ true = is in cc
+no_write Read is = let no : false ≡ true = is in cc
+no_write Memory is = let no : false ≡ true = is in cc
+no_write TooLong is = let no : false ≡ true = is in cc
+
+-- nothing has come of it
+pub none_told : (Says : Outcome → List ℕ → Type 0) (o : Option (List ℕ)) (e : ToolFault) → Tells Says o o (Err (held_fault e))
+none_told Says o Write = Keeps-refl o
+none_told Says o Read = Keeps-refl o
+none_told Says o Memory = Keeps-refl o
+none_told Says o TooLong = Keeps-refl o
+
+none_replied : (bytes_of : Text → Option (List ℕ)) (q : Question) (o : Option (List ℕ)) (e : ToolFault) → Replies bytes_of q o o (Err (held_fault e))
+none_replied bytes_of (question.Plan a plan) o e = none_told _ o e
+none_replied bytes_of (question.Script a plan script) o e = none_told _ o e
+none_replied bytes_of (question.Known line column turns plan script) o e = none_told _ o e
+none_replied bytes_of (question.Response plan script every within) o e = none_told _ o e
+
+-- A text xs is held, and an output has o.
+appended : (o : Option (List ℕ)) (xs text : List ℕ) → xs ≡ text → Appends o (append_known o xs) text
+appended None xs text is = tt
+appended (Some ys) xs text is = ap (λ (l : List ℕ). ys ++ l) is
+
+tells_on : (Says : Outcome → List ℕ → Type 0) (o : Option (List ℕ)) (xs : List ℕ) (done : Done) → Tells Says (Some []) (Some xs) (Ok done) → Tells Says o (append_known o xs) (Ok done)
+tells_on Says o xs (Answered outcome) told = (told.0, told.1, appended o xs told.0 told.2)
+tells_on Says o xs (Misused misuse) told = absurd told
+tells_on Says o xs (NoCode word) told = absurd told
+
+unless_on : (Wrong : Misuse → Type 0) (Says : Outcome → List ℕ → Type 0) (o : Option (List ℕ)) (xs : List ℕ) (done : Done) → TellsUnless Wrong Says (Some []) (Some xs) (Ok done)
+    → TellsUnless Wrong Says o (append_known o xs) (Ok done)
+unless_on Wrong Says o xs (Answered outcome) told = tells_on Says o xs (Answered outcome) told
+unless_on Wrong Says o xs (Misused misuse) (wrong, none) = (wrong, subst (Keeps o) (sym (ap (append_known o) none ∙ nothing_held o)) (Keeps-refl o))
+unless_on Wrong Says o xs (NoCode word) told = absurd told
+
+replies_on : (bytes_of : Text → Option (List ℕ)) (q : Question) (o : Option (List ℕ)) (xs : List ℕ) (done : Done) → Replies bytes_of q (Some []) (Some xs) (Ok done)
+    → Replies bytes_of q o (append_known o xs) (Ok done)
+replies_on bytes_of (question.Plan a plan) o xs done told = tells_on _ o xs done told
+replies_on bytes_of (question.Script a plan script) o xs done told = tells_on _ o xs done told
+replies_on bytes_of (question.Known line column turns plan script) o xs done told = tells_on _ o xs done told
+replies_on bytes_of (question.Response plan script every within) o xs done told = unless_on _ _ o xs done told
+
+-- so many bytes of it went out
+begun : (o p : Option (List ℕ)) (xs : List ℕ) (n : ℕ) → Appends o p (take n xs) → HasBeginning (append_known o xs) p
+begun None p xs n out = ([], tt)
+begun (Some ys) None xs n out = absurd out
+begun (Some ys) (Some zs) xs n out =
+    (drop n xs, ap (λ (l : List ℕ). l ++ drop n xs) out ∙ append_assoc ys (take n xs) (drop n xs) ∙ ap (λ (l : List ℕ). ys ++ l) (take-append-drop n xs))
+
+all_out : (o p : Option (List ℕ)) (xs : List ℕ) → Appends o p xs → Keeps (append_known o xs) p
+all_out None p xs out = tt
+all_out (Some ys) None xs out = absurd out
+all_out (Some ys) (Some zs) xs out = out
+
+module _ (bytes_of : Text → Option (List ℕ)) (q : Question) (o : Option (List ℕ)) where
+  pub none_handed : (e : ToolFault) → HandsOn (Replies bytes_of q) o o (Err (held_fault e))
+  none_handed e = (o, inl (none_replied bytes_of q o e), beginning o o (Keeps-refl o))
+
+  module _ (p : Option (List ℕ)) (xs : List ℕ) (n : ℕ) (done : Done) (told : Replies bytes_of q (Some []) (Some xs) (Ok done)) (out : Appends o p (take n xs)) where
+    pub not_handed : HandsOn (Replies bytes_of q) o p (Err Write)
+    not_handed = (append_known o xs, inr (refl, (Ok done, replies_on bytes_of q o xs done told)), begun o p xs n out)
+
+    pub handed : n ≡ length xs → HandsOn (Replies bytes_of q) o p (Ok done)
+    handed all = (append_known o xs, replies_on bytes_of q o xs done told, all_out o p xs (subst (Appends o p) (take_all n xs (omega (arith, all))) out))
+
+-- of a rule: all went out, or not
+module _ (Says : Outcome → List ℕ → Type 0) (o p : Option (List ℕ)) (xs : List ℕ) (n : ℕ) (outcome : Outcome) (told : IsWritten Says (Some []) (Some xs) (Ok outcome)) (out : Appends o p (take n xs)) where
+  pub all_told : n ≡ length xs → Tells Says o p (Ok (Answered outcome))
+  all_told all = (told.0, told.1, subst (Appends o p) (take_all n xs (omega (arith, all)) ∙ told.2) out)
+
+  pub some_told : n < length xs → Tells Says o p (Err Write)
+  some_told less =
+      (outcome, told.0, told.1, (take n xs, drop n xs, sym told.2 ∙ sym (take-append-drop n xs), omega (arith, less, length-drop n xs), out))
