@@ -1,9 +1,8 @@
 -- What is told of a text that was held in memory, and then went out.
-use Rattle.std.proofs.Common.{◌≡◌, ◌<◌, ◌-◌, ℕ, Bool, true, false, List, [], ◌++◌, length, take, drop, Option, None, Some, refl, sym, ap, subst, ◌∙◌, inl, inr, append-nil, append_assoc, take-append-drop, take_all, arith}
+use Rattle.std.proofs.Common.{◌≡◌, ℕ, Bool, true, false, List, [], ◌++◌, Option, None, Some, refl, sym, ap, subst, ◌∙◌, inl, inr, append_assoc}
 use Rattle.std.specs.Prelude.{Result, Ok, Err}
 use Rattle.std.specs.Io.KnownBytes.{Appends, Keeps, append_known}
-use Rattle.std.proofs.KnownBytes.{Appends-kept, Keeps-refl}
-use Rattle.std.proofs.lemmas.List.{length-drop}
+use Rattle.std.proofs.KnownBytes.{Keeps-refl}
 use Rattle.clap.specs.Words.{Text}
 use Rattle.camac_word.specs.Writing.{AppendsPrefix}
 use Rattle.camac_engines.specs.Engine.{IsWritten, is_write_fault}
@@ -63,12 +62,12 @@ replies_on bytes_of (question.Script a plan script) o xs done told = tells_on _ 
 replies_on bytes_of (question.Known line column turns plan script) o xs done told = tells_on _ o xs done told
 replies_on bytes_of (question.Response plan script every within) o xs done told = unless_on _ _ o xs done told
 
--- so many bytes of it went out
-begun : (o p : Option (List ℕ)) (xs : List ℕ) (n : ℕ) → Appends o p (take n xs) → HasBeginning (append_known o xs) p
-begun None p xs n out = ([], tt)
-begun (Some ys) None xs n out = absurd out
-begun (Some ys) (Some zs) xs n out =
-    (drop n xs, ap (λ (l : List ℕ). l ++ drop n xs) out ∙ append_assoc ys (take n xs) (drop n xs) ∙ ap (λ (l : List ℕ). ys ++ l) (take-append-drop n xs))
+-- a part of it went out, or all
+begun : (o p : Option (List ℕ)) (xs : List ℕ) → AppendsPrefix o p xs → HasBeginning (append_known o xs) p
+begun None p xs out = ([], tt)
+begun (Some ys) None xs (prefix, rest, split, some, out) = absurd out
+begun (Some ys) (Some zs) xs (prefix, rest, split, some, out) =
+    (rest, ap (λ (l : List ℕ). l ++ rest) out ∙ append_assoc ys prefix rest ∙ ap (λ (l : List ℕ). ys ++ l) (sym split))
 
 all_out : (o p : Option (List ℕ)) (xs : List ℕ) → Appends o p xs → Keeps (append_known o xs) p
 all_out None p xs out = tt
@@ -79,18 +78,20 @@ module _ (bytes_of : Text → Option (List ℕ)) (q : Question) (o : Option (Lis
   pub none_handed : (e : ToolFault) → HandsOn (Replies bytes_of q) o o (Err (held_fault e))
   none_handed e = (o, inl (none_replied bytes_of q o e), beginning o o (Keeps-refl o))
 
-  module _ (p : Option (List ℕ)) (xs : List ℕ) (n : ℕ) (done : Done) (told : Replies bytes_of q (Some []) (Some xs) (Ok done)) (out : Appends o p (take n xs)) where
-    pub not_handed : HandsOn (Replies bytes_of q) o p (Err Write)
-    not_handed = (append_known o xs, inr (refl, (Ok done, replies_on bytes_of q o xs done told)), begun o p xs n out)
+  module _ (p : Option (List ℕ)) (xs : List ℕ) (done : Done) (told : Replies bytes_of q (Some []) (Some xs) (Ok done)) where
+    pub some_handed : AppendsPrefix o p xs → HandsOn (Replies bytes_of q) o p (Err Write)
+    some_handed out = (append_known o xs, inr (refl, (Ok done, replies_on bytes_of q o xs done told)), begun o p xs out)
 
-    pub handed : n ≡ length xs → HandsOn (Replies bytes_of q) o p (Ok done)
-    handed all = (append_known o xs, replies_on bytes_of q o xs done told, all_out o p xs (subst (Appends o p) (take_all n xs (omega (arith, all))) out))
+    pub not_flushed : Appends o p xs → HandsOn (Replies bytes_of q) o p (Err Write)
+    not_flushed out = (append_known o xs, inr (refl, (Ok done, replies_on bytes_of q o xs done told)), beginning _ p (all_out o p xs out))
 
--- of a rule: all went out, or not
-module _ (Says : Outcome → List ℕ → Type 0) (o p : Option (List ℕ)) (xs : List ℕ) (n : ℕ) (outcome : Outcome) (told : IsWritten Says (Some []) (Some xs) (Ok outcome)) (out : Appends o p (take n xs)) where
-  pub all_told : n ≡ length xs → Tells Says o p (Ok (Answered outcome))
-  all_told all = (told.0, told.1, subst (Appends o p) (take_all n xs (omega (arith, all)) ∙ told.2) out)
+    pub handed : Appends o p xs → HandsOn (Replies bytes_of q) o p (Ok done)
+    handed out = (append_known o xs, replies_on bytes_of q o xs done told, all_out o p xs out)
 
-  pub some_told : n < length xs → Tells Says o p (Err Write)
-  some_told less =
-      (outcome, told.0, told.1, (take n xs, drop n xs, sym told.2 ∙ sym (take-append-drop n xs), omega (arith, less, length-drop n xs), out))
+-- of a rule
+module _ (Says : Outcome → List ℕ → Type 0) (o p : Option (List ℕ)) (xs : List ℕ) (outcome : Outcome) (told : IsWritten Says (Some []) (Some xs) (Ok outcome)) where
+  pub all_told : Appends o p xs → Tells Says o p (Ok (Answered outcome))
+  all_told out = (told.0, told.1, subst (Appends o p) told.2 out)
+
+  pub some_told : AppendsPrefix o p xs → Tells Says o p (Err Write)
+  some_told out = (outcome, told.0, told.1, subst (AppendsPrefix o p) told.2 out)

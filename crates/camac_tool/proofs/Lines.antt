@@ -1,7 +1,8 @@
 -- What a listing has of a line that it did not take. The line of an item is never empty.
-use Rattle.std.proofs.Common.{◌≡◌, ◌<◌, ℕ, List, [], ◌++◌, length, Option, None, Some, refl, sym, ap, ◌∙◌, append-nil, append_assoc, arith}
+use Rattle.std.proofs.Common.{◌≡◌, ◌<◌, ◌-◌, ℕ, List, [], ◌++◌, length, take, drop, Option, None, Some, refl, sym, ap, subst, ◌∙◌, append-nil, append_assoc, take_all, take-append-drop, arith}
+use Rattle.std.proofs.lemmas.List.{length-drop}
 use Rattle.std.specs.Io.KnownBytes.{Appends, Keeps, append_known}
-use Rattle.std.specs.Prelude.{true, false, Result, Ok, Err}
+use Rattle.std.specs.Prelude.{true, false, Result, Ok, Err, OnOk, OnErr}
 use Rattle.std.specs.Result.{IsErr}
 use Rattle.camac_word.specs.Writing.{AppendsPrefix, Writes}
 use Rattle.camac_lang.specs.Tree.{Script}
@@ -47,3 +48,8 @@ behind (Some xs) (Some ys) (Some zs) held text kept none p =
 pub written_behind : {T E : Type 0} (r : Result T E) (a d e : Option (List ℕ)) (held text : List ℕ) → Keeps a (append_known d held) → held ≡ [] → Writes d e r text → Writes a (append_known e held) r text
 written_behind (Ok x) a d e held text kept none p = behind a d e held text kept none p
 written_behind (Err x) a d e held text kept none (prefix, rest, split, some, p) = (prefix, rest, split, some, behind a d e held prefix kept none p)
+
+-- so many bytes of a text were written, and all of them where no call failed
+pub written_out : {T E : Type 0} (r : Result T E) (a b : Option (List ℕ)) (text : List ℕ) (n : ℕ) → OnOk r (n ≡ length text) → OnErr r (n < length text) → Appends a b (take n text) → Writes a b r text
+written_out (Ok x) a b text n all some p = subst (Appends a b) (take_all n text (omega (arith, all))) p
+written_out (Err e) a b text n all some p = (take n text, drop n text, sym (take-append-drop n text), omega (arith, some, length-drop n text), p)

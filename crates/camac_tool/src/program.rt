@@ -13,7 +13,7 @@ ghost use Rattle.camac_tool.specs.declared.launch.ArgumentsFault.TheVariants.{Me
 ghost use Rattle.camac_engines.specs.Engine.{is_write_fault};
 ghost use Rattle.camac_word.specs.Watched.{inner_of, has_failed};
 
-use crate::device::{Device, write_out};
+use crate::device::{Device, Whole};
 use crate::devices::run_on_devices;
 use crate::failure::{Failure, Named};
 use crate::gathered::Gathered;
@@ -27,6 +27,7 @@ use camac_engines::{
     Ask, Outcome, PlanAsk, Responded, ToolFault, Turns, answer, answer_plan, engine_events,
     engine_explain_rule, engine_response, status,
 };
+use camac_event::TextWriter;
 use camac_explain::Rule;
 use camac_play::Telling;
 use camac_response::{Misuse, read_settings};
@@ -190,7 +191,7 @@ impl<'r, 'f, 'a, R: Host + Print + Eprint + AllocGlobal> Tool<'r, 'f, 'a, R> {
             Ok(done) => done,
             Err(fault) => return (Err(held_fault(fault)), out),
         };
-        let (_, written) = write_out(&text.into_inner(), &mut out);
+        let written = Whole(&mut out).put_text(&text.into_inner());
         if written.is_err() || out.hand_on().is_err() {
             return (Err(ToolFault::Write), out);
         }
@@ -325,8 +326,7 @@ impl<'r, 'f, 'a, R: Host + Print + Eprint + AllocGlobal> Tool<'r, 'f, 'a, R> {
             Ok(outcome) => outcome,
             Err(fault) => return (Err(held_fault(fault)), out),
         };
-        let (_, written) = write_out(&text.into_inner(), &mut out);
-        match written {
+        match Whole(&mut out).put_text(&text.into_inner()) {
             Ok(()) => (Ok(Done::Answered(outcome)), out),
             Err(WriteFault) => (Err(ToolFault::Write), out),
         }
