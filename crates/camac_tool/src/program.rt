@@ -62,7 +62,16 @@ pub fn exit_status<R: Host + Print + Eprint + AllocGlobal, W: Write + Drop>(
 ) -> (u8, Watched<W>)
     ensures { Ends (R.bytes_of rt.now) (R.finds rt.now) (R.begun rt.now) (R.saved rt.now) (R.fails rt.now) (map string_bytes words.now) (W.contents out) (W.contents (inner_of result.1)) (has_failed result.1) result.0 }
 {
-    let out = Watched::new(out);
+    serve_words(rt, words, Watched::new(out))
+}
+
+fn serve_words<R: Host + Print + Eprint + AllocGlobal, D: Device + Drop>(
+    rt: &R,
+    words: &[String],
+    out: D,
+) -> (u8, D)
+    ensures { Ends (R.bytes_of rt.now) (R.finds rt.now) (R.begun rt.now) (R.saved rt.now) (R.fails rt.now) (map string_bytes words.now) (D.contents out) (D.contents result.1) (D.failed result.1) result.0 }
+{
     let failure = Failure::none();
     let tool = Tool {
         rt,

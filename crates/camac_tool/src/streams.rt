@@ -1,6 +1,6 @@
 // The streams of a run: its answers, its listing and its event file.
 
-ghost use Rattle.std.specs.Prelude.{◌≡◌, ◌⊎◌, ◌≤◌, ◌<◌, ◌||◌, [], true, false, length, take, OnOk, IfOk, IfErr, is_err};
+ghost use Rattle.std.specs.Prelude.{◌≡◌, ◌⊎◌, ◌≤◌, ◌<◌, ◌||◌, [], true, false, length, take, OnOk, IfOk, IfErr, is_err, Bool};
 ghost use Rattle.std.specs.Io.KnownBytes.{Keeps, Consumes, IsAtEnd};
 ghost use Rattle.camac_answer.specs.Answers.{IsOpen};
 ghost use Rattle.camac_answer.specs.Lines.{first_line};
@@ -101,7 +101,8 @@ impl<R: Read + Drop, W: Device + Drop, E: Device + Drop> Streams<R, W, E> {
     /// Hands on all that was given at the end of a run, and returns both outputs. One that fails is a write fault.
     pub fn finish(mut self, outcome: Result<Outcome, ToolFault>) -> Ran<W, E>
         ensures handed { IsHandedOn (run_state R.remaining W.contents W.failed E.contents E.failed self) (W.contents result.listing) (E.contents result.records) outcome result.outcome }
-        ensures failed { have_stopped W.failed E.failed self ≡ is_fault_of_write outcome → (W.failed result.listing || E.failed result.records) ≡ is_fault_of_write result.outcome }
+        ensures failed { (had : Bool) → have_stopped W.failed E.failed self ≡ (had || is_fault_of_write outcome)
+            → (W.failed result.listing || E.failed result.records) ≡ (had || is_fault_of_write result.outcome) }
     {
         let outcome = match self.hand_on() {
             Ok(()) => outcome,
