@@ -5,7 +5,7 @@ use Rattle.camac_tool.specs.declared.gathered.Gathered.{Gathered}
 
 -- the writer that it hands on to
 abbrev pub device_of : {W : Type 0} → Gathered W → W
-device_of g = g.inner
+device_of g = g.inner.0
 
 -- the bytes that it was given and has not handed on
 abbrev pub held_in : {W : Type 0} → Gathered W → List ℕ

@@ -53,15 +53,15 @@ impl<W: Write> Device for Watched<W> {
 
 /// A device that takes whole texts.
 #[derive(Drop)]
-pub struct Whole<'d, D>(pub &'d mut D);
+pub struct Whole<D: Drop>(pub D);
 
-impl<D: Device> TextWriter for Whole<'_, D> {
-    ghost contents = { λ w. D.contents w.0.now };
+impl<D: Device + Drop> TextWriter for Whole<D> {
+    ghost contents = { λ w. D.contents w.0 };
 
-    ghost failed = { λ w. D.failed w.0.now };
+    ghost failed = { λ w. D.failed w.0 };
 
     fn put_text(&mut self, text: &[u8]) -> Result<(), WriteFault> {
-        let (_, result) = write_out(text, self.0);
+        let (_, result) = write_out(text, &mut self.0);
         result
     }
 }

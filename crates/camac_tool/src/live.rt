@@ -16,8 +16,8 @@ use std::io::Read;
 #[derive(Drop)]
 pub struct Live<R: Read + Drop, L: Drop, E: Drop> {
     pub answers: Watched<R>,
-    pub requests: L,
-    pub records: E,
+    pub requests: Whole<L>,
+    pub records: Whole<E>,
 }
 
 impl<R: Read + Drop, L: Device + Drop, E: Device + Drop> RunIo for Live<R, L, E> {
@@ -31,7 +31,7 @@ impl<R: Read + Drop, L: Device + Drop, E: Device + Drop> RunIo for Live<R, L, E>
     }
 
     fn list_line(&mut self, line: &Line) -> Result<(), WriteFault> {
-        Whole(&mut self.requests).put_text(line.as_bytes())
+        self.requests.put_text(line.as_bytes())
     }
 
     fn list_items(
@@ -42,11 +42,11 @@ impl<R: Read + Drop, L: Device + Drop, E: Device + Drop> RunIo for Live<R, L, E>
     ) -> Result<(), WriteFault> {
         let mut lines = [0; LONGEST_LINE];
         let end = items_in(&mut lines, 0, checked, item, unlocks);
-        Whole(&mut self.requests).put_text(&lines[..end])
+        self.requests.put_text(&lines[..end])
     }
 
     fn record_header(&mut self) -> Result<(), WriteFault> {
-        write_header(&mut Whole(&mut self.records))
+        write_header(&mut self.records)
     }
 
     fn record_event(
@@ -56,6 +56,6 @@ impl<R: Read + Drop, L: Device + Drop, E: Device + Drop> RunIo for Live<R, L, E>
         usage: Usage,
         words: &[Word24],
     ) -> Result<(), WriteFault> {
-        write_record(&mut Whole(&mut self.records), number, gl, usage, words)
+        write_record(&mut self.records, number, gl, usage, words)
     }
 }

@@ -190,7 +190,7 @@ impl<'r, 'f, 'a, R: Host + Print + Eprint + AllocGlobal> Tool<'r, 'f, 'a, R> {
     fn gather<D: Device + Drop>(
         &self,
         question: Question<'a>,
-        mut out: D,
+        out: D,
     ) -> (Result<Done<'a>, ToolFault>, D)
         ensures told { HandsOn (Replies (R.bytes_of self.now.rt.now) question.entry) (D.contents out) (D.contents result.1) result.0 }
         ensures cause { is_write_fault result.0 ≡ true → D.failed result.1 ≡ true }
@@ -200,7 +200,9 @@ impl<'r, 'f, 'a, R: Host + Print + Eprint + AllocGlobal> Tool<'r, 'f, 'a, R> {
             Ok(done) => done,
             Err(fault) => return (Err(held_fault(fault)), out),
         };
-        let written = Whole(&mut out).put_text(&text.into_inner());
+        let mut whole = Whole(out);
+        let written = whole.put_text(&text.into_inner());
+        let Whole(mut out) = whole;
         if written.is_err() || out.hand_on().is_err() {
             return (Err(ToolFault::Write), out);
         }
@@ -322,7 +324,7 @@ impl<'r, 'f, 'a, R: Host + Print + Eprint + AllocGlobal> Tool<'r, 'f, 'a, R> {
     fn explain_rule<D: Device + Drop>(
         &self,
         code: &'a str,
-        mut out: D,
+        out: D,
     ) -> (Result<Done<'a>, ToolFault>, D)
         ensures told { ExplainsRule code.now (D.contents out) (D.contents result.1) result.0 }
         ensures cause { is_write_fault result.0 ≡ true → D.failed result.1 ≡ true }
@@ -335,9 +337,10 @@ impl<'r, 'f, 'a, R: Host + Print + Eprint + AllocGlobal> Tool<'r, 'f, 'a, R> {
             Ok(outcome) => outcome,
             Err(fault) => return (Err(held_fault(fault)), out),
         };
-        match Whole(&mut out).put_text(&text.into_inner()) {
-            Ok(()) => (Ok(Done::Answered(outcome)), out),
-            Err(WriteFault) => (Err(ToolFault::Write), out),
+        let mut whole = Whole(out);
+        match whole.put_text(&text.into_inner()) {
+            Ok(()) => (Ok(Done::Answered(outcome)), whole.0),
+            Err(WriteFault) => (Err(ToolFault::Write), whole.0),
         }
     }
 
@@ -392,8 +395,8 @@ impl<'r, 'f, 'a, R: Host + Print + Eprint + AllocGlobal> Tool<'r, 'f, 'a, R> {
         let file = NewFile::<'_, R, K>::named(self.rt, words);
         let mut io = Live {
             answers: Watched::new(answers),
-            requests: out,
-            records: Named::new(file, events, self.failure),
+            requests: Whole(out),
+            records: Whole(Named::new(file, events, self.failure)),
         };
         let outcome = run_over(
             self.rt.alloc(),
@@ -405,7 +408,7 @@ impl<'r, 'f, 'a, R: Host + Print + Eprint + AllocGlobal> Tool<'r, 'f, 'a, R> {
         let Live {
             requests, records, ..
         } = io;
-        (settled(outcome, &records), requests)
+        (settled(outcome, &records.0), requests.0)
     }
 
     // The plan, the script and the answers of a run, none of which is EVENTS.

@@ -30,7 +30,10 @@ impl<W: Device + Drop> Gathered<W> {
         ensures memory { IfErr result (λ same. same ≡ inner) }
     {
         match Room::new(alloc) {
-            Ok(room) => Ok(Gathered { inner, room }),
+            Ok(room) => Ok(Gathered {
+                inner: Whole(inner),
+                room,
+            }),
             Err(_) => Err(inner),
         }
     }
@@ -39,14 +42,14 @@ impl<W: Device + Drop> Gathered<W> {
     pub fn failed(&self) -> bool
         ensures { result ≡ has_stopped W.failed self.now }
     {
-        self.inner.has_failed()
+        self.inner.0.has_failed()
     }
 
     /// The writer behind it. What is still held is lost.
     pub fn into_inner(self) -> W
         ensures { result ≡ device_of self }
     {
-        self.inner
+        self.inner.0
     }
 }
 
@@ -60,7 +63,7 @@ impl<W: Device + Drop> Gathered<W> {
         ensures bytes { Keeps (given_to W.contents self.old) (given_to W.contents self.new) }
         ensures failed { has_stopped W.failed self.new ≡ is_err result }
     {
-        let (written, result) = write_out(self.room.as_slice(), &mut self.inner);
+        let (written, result) = write_out(self.room.as_slice(), &mut self.inner.0);
         self.room.remove_prefix(written);
         result
     }
@@ -90,7 +93,7 @@ impl<W: Device + Drop> Gathered<W> {
         ensures failed { has_stopped W.failed self.new ≡ is_err result }
     {
         self.write_held()?;
-        write_header(&mut Whole(&mut self.inner))
+        write_header(&mut self.inner)
     }
 
     /// Takes the line of an item, and a line for each crate, at most seven, whose lockout was released after it: they are laid out where
@@ -171,7 +174,7 @@ impl<W: Device + Drop> Write for Gathered<W> {
         if self.write_held().is_err() {
             return Err(stopped());
         }
-        self.inner.hand_on()
+        self.inner.0.hand_on()
     }
 }
 

@@ -9,4 +9,4 @@ returns-in_err-make_room-clause-text g c =
 pub returns-clause-text : goal.returns-clause-text
 returns-clause-text g c =
     let before = c.make_room.new.self in
-    taken _ (g.W.Device.contents before.inner) before.room _ _ c.in_ok-make_room.ensures.bytes c.put_items.ensures
+    taken _ (g.W.Device.contents before.inner.0) before.room _ _ c.in_ok-make_room.ensures.bytes c.put_items.ensures
