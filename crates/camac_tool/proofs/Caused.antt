@@ -1,9 +1,6 @@
 -- A write fault has a cause.
 use Rattle.std.proofs.Common.{◌≡◌, ◌⊎◌, Bool, true, false, refl, sym, ap, ◌∙◌, inl, inr}
-use Rattle.std.specs.Prelude.{◌||◌, Result, Ok, Err}
-use Rattle.camac_engines.specs.Engine.{is_write_fault}
-use Rattle.camac_engines.specs.declared.fault.ToolFault.{ToolFault}
-use Rattle.camac_engines.specs.declared.fault.ToolFault.TheVariants.{Read, Write, Memory, TooLong}
+use Rattle.std.specs.Prelude.{◌||◌}
 
 or_true : (a : Bool) → (a || true) ≡ true
 or_true true = refl
@@ -19,10 +16,3 @@ of_run false y a b k flags host (inl wrote) = inr (inl (host (flags ∙ ap (λ c
 pub of_inputs : {Failed Other : Type 0} (a k : Bool) → a ≡ k → ((a ≡ true) ⊎ Other) → Failed ⊎ ((k ≡ true) ⊎ Other)
 of_inputs a k same (inl fails) = inr (inl (sym same ∙ fails))
 of_inputs a k same (inr other) = inr (inr other)
-
--- a fault that is handed on
-pub same_fault : {A B : Type 0} (e : ToolFault) → is_write_fault {T = A} (Err e) ≡ true → is_write_fault {T = B} (Err e) ≡ true
-same_fault Write is = refl
-same_fault Read is = is
-same_fault Memory is = is
-same_fault TooLong is = is

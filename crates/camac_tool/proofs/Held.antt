@@ -1,10 +1,10 @@
 -- What is told of a text that was held in memory, and then went out.
 use Rattle.std.proofs.Common.{◌≡◌, ℕ, Bool, true, false, List, [], ◌++◌, Option, None, Some, refl, sym, ap, subst, ◌∙◌, inl, inr, append_assoc}
-use Rattle.std.specs.Prelude.{Result, Ok, Err}
+use Rattle.std.specs.Prelude.{Result, Ok, Err, is_err}
 use Rattle.std.specs.Io.KnownBytes.{Appends, Keeps, append_known}
-use Rattle.std.proofs.KnownBytes.{Keeps-refl}
+use Rattle.std.proofs.KnownBytes.{Appends-kept, Keeps-refl}
 use Rattle.clap.specs.Words.{Text}
-use Rattle.camac_word.specs.Writing.{AppendsPrefix}
+use Rattle.camac_word.specs.Writing.{AppendsPrefix, Writes}
 use Rattle.camac_engines.specs.Engine.{IsWritten, is_write_fault}
 use Rattle.camac_engines.specs.declared.fault.ToolFault.{ToolFault}
 use Rattle.camac_engines.specs.declared.fault.ToolFault.TheVariants.{Read, Write, Memory, TooLong}
@@ -20,7 +20,7 @@ use Rattle.camac_tool.specs.declared.program.Question.{Question}
 use Rattle.camac_tool.specs.declared.program.Question.TheVariants as question
 
 -- a fault of an engine that writes to memory is none of a writer
-pub no_write : {T : Type 0} {X : Type 0} (e : ToolFault) → is_write_fault {T = T} (Err (held_fault e)) ≡ true → X
+pub no_write : {X : Type 0} (e : ToolFault) → is_write_fault {T = Done} (Err (held_fault e)) ≡ true → X
 no_write Write is = let no : false ≡ true = is in cc
 no_write Read is = let no : false ≡ true = is in cc
 no_write Memory is = let no : false ≡ true = is in cc
@@ -78,20 +78,30 @@ module _ (bytes_of : Text → Option (List ℕ)) (q : Question) (o : Option (Lis
   pub none_handed : (e : ToolFault) → HandsOn (Replies bytes_of q) o o (Err (held_fault e))
   none_handed e = (o, inl (none_replied bytes_of q o e), beginning o o (Keeps-refl o))
 
-  module _ (p : Option (List ℕ)) (xs : List ℕ) (done : Done) (told : Replies bytes_of q (Some []) (Some xs) (Ok done)) where
-    pub some_handed : AppendsPrefix o p xs → HandsOn (Replies bytes_of q) o p (Err Write)
-    some_handed out = (append_known o xs, inr (refl, (Ok done, replies_on bytes_of q o xs done told)), begun o p xs out)
+  -- it was held as xs, and then written, and what the writer holds back was handed on
+  module _ (p p' : Option (List ℕ)) (xs : List ℕ) (done : Done) (told : Replies bytes_of q (Some []) (Some xs) (Ok done)) (kept : Keeps p p') where
+    pub not_handed : {T E : Type 0} (r : Result T E) → Writes o p r xs → HandsOn (Replies bytes_of q) o p' (Err Write)
+    not_handed r out = (append_known o xs, inr (refl, (Ok done, replies_on bytes_of q o xs done told)), by r out)
+      where
+        by : {T E : Type 0} (r : Result T E) → Writes o p r xs → HasBeginning (append_known o xs) p'
+        by (Ok x) out = beginning _ p' (all_out o p' xs (Appends-kept o p p' xs out kept))
+        by (Err e) (prefix, rest, split, some, out) = begun o p' xs (prefix, rest, split, some, Appends-kept o p p' prefix out kept)
 
-    pub not_flushed : Appends o p xs → HandsOn (Replies bytes_of q) o p (Err Write)
-    not_flushed out = (append_known o xs, inr (refl, (Ok done, replies_on bytes_of q o xs done told)), beginning _ p (all_out o p xs out))
+    pub handed : {T E : Type 0} (r : Result T E) → is_err r ≡ false → Writes o p r xs → HandsOn (Replies bytes_of q) o p' (Ok done)
+    handed (Ok x) is out = (append_known o xs, replies_on bytes_of q o xs done told, all_out o p' xs (Appends-kept o p p' xs out kept))
+    handed (Err e) is out = let no : true ≡ false = is in cc
 
-    pub handed : Appends o p xs → HandsOn (Replies bytes_of q) o p (Ok done)
-    handed out = (append_known o xs, replies_on bytes_of q o xs done told, all_out o p xs out)
+-- as the held bytes were, from none on
+pub replied_as : (bytes_of : Text → Option (List ℕ)) (q : Question) (done : Done) (old new xs : List ℕ) → old ≡ [] → xs ≡ new → Replies bytes_of q (Some old) (Some new) (Ok done)
+    → Replies bytes_of q (Some []) (Some xs) (Ok done)
+replied_as bytes_of q done old new xs none same told =
+    subst (λ (l : List ℕ). Replies bytes_of q (Some l) (Some xs) (Ok done)) none (subst (λ (l : List ℕ). Replies bytes_of q (Some old) (Some l) (Ok done)) (sym same) told)
+
+pub written_as : (Says : Outcome → List ℕ → Type 0) (outcome : Outcome) (old new xs : List ℕ) → old ≡ [] → xs ≡ new → IsWritten Says (Some old) (Some new) (Ok outcome) → IsWritten Says (Some []) (Some xs) (Ok outcome)
+written_as Says outcome old new xs none same told =
+    subst (λ (l : List ℕ). IsWritten Says (Some l) (Some xs) (Ok outcome)) none (subst (λ (l : List ℕ). IsWritten Says (Some old) (Some l) (Ok outcome)) (sym same) told)
 
 -- of a rule
 module _ (Says : Outcome → List ℕ → Type 0) (o p : Option (List ℕ)) (xs : List ℕ) (outcome : Outcome) (told : IsWritten Says (Some []) (Some xs) (Ok outcome)) where
-  pub all_told : Appends o p xs → Tells Says o p (Ok (Answered outcome))
-  all_told out = (told.0, told.1, subst (Appends o p) told.2 out)
-
   pub some_told : AppendsPrefix o p xs → Tells Says o p (Err Write)
   some_told out = (outcome, told.0, told.1, subst (AppendsPrefix o p) told.2 out)

@@ -1,6 +1,6 @@
 use Rattle.std.proofs.Common.{◌≡◌, ◌||◌, refl}
 use Rattle.camac_engines.specs.Engine.{is_write_fault}
-use Rattle.camac_tool.proofs.Caused.{of_inputs, of_run, same_fault}
+use Rattle.camac_tool.proofs.Caused.{of_inputs, of_run}
 use Rattle.camac_tool.proofs.Ended.{not_begun, run_handed}
 use Rattle.camac_tool.proofs.Inputs.{judged_read}
 use Rattle.camac_tool.specs.Apart.{words_of}
@@ -11,7 +11,7 @@ pub returns-in-Err-clause-does : goal.returns-in-Err-clause-does
 returns-in-Err-clause-does g c = not_begun (g.R.Host.bytes_of c.args.self.now.rt.now) (g.R.Host.finds c.args.self.now.rt.now) g.K.Saving.begun (words_of c.args.words) g.K.Saving.saves _ _
 
 pub returns-in-Err-clause-cause : goal.returns-in-Err-clause-cause
-returns-in-Err-clause-cause g c failed = of_inputs _ g.K.Saving.fails c.requires.fails (c.in-Err.ensures.cause (same_fault c.in-Err.fault failed))
+returns-in-Err-clause-cause g c failed = of_inputs _ g.K.Saving.fails c.requires.fails (c.in-Err.ensures.cause failed)
 
 pub returns-clause-does : goal.returns-clause-does
 returns-clause-does g c =
