@@ -120,7 +120,10 @@ impl<D: Device + Drop> Device for Named<'_, '_, D> {
     // A writer that takes nothing fails.
     fn write_some(&mut self, bytes: &[u8]) -> io::Result<usize> {
         let result = match self.device.write_some(bytes) {
-            Ok(0) if !bytes.is_empty() => Err(Error::new(ErrorKind::WriteZero, "it takes no bytes")),
+            Ok(0) if !bytes.is_empty() => Err(Error::new(
+                ErrorKind::WriteZero,
+                "it takes no bytes",
+            )),
             result => result,
         };
         if let Err(why) = &result {

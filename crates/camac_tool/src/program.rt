@@ -406,7 +406,9 @@ impl<'r, 'f, 'a, R: Host + Print + Eprint + AllocGlobal> Tool<'r, 'f, 'a, R> {
             &mut io,
         );
         let Live {
-            requests, records, ..
+            requests,
+            records,
+            ..
         } = io;
         (settled(outcome, &records.0), requests.0)
     }

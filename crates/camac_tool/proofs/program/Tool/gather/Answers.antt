@@ -22,8 +22,8 @@ returns-then-is_err-clause-told g c =
     let p = g.D.Device.contents c.put_text-written.new.self.0 in
     let told = replied_as bytes_of c.args.question c.in-Ok.done _ _ c.deref.result.now (ap items c.new-text.ensures.inner ∙ c.new.ensures.items) (c.deref.ensures.value ∙ ap items c.into_inner.ensures) c.in-Ok.ensures in
     let kept : Keeps p (g.D.Device.contents c.then-is_err.out) = elim c.then-is_err.branch [
-      then-is_err-via-then-is_err w ↦ rw w.out-is (Keeps-refl p)
-    | then-is_err-via-else-is_err+then-is_err-2 w ↦ rw w.out-is w.hand_on.ensures.bytes
+      | then-is_err-via-then-is_err w ↦ rw w.out-is (Keeps-refl p)
+      | then-is_err-via-else-is_err+then-is_err-2 w ↦ rw w.out-is w.hand_on.ensures.bytes
     ] in
     not_handed bytes_of c.args.question (g.D.Device.contents c.args.out) p (g.D.Device.contents c.then-is_err.out) c.deref.result.now c.in-Ok.done told kept c.put_text-written.result c.put_text-written.ensures.text
 
