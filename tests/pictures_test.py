@@ -381,7 +381,7 @@ class Texts(laboratory.BenchCase):
             self.assertEqual(text.count("<script"), 1)
             self.assertEqual(text.count("<svg "), text.count("</svg>"))
             self.assertNotIn("<img", text)
-            self.assertIsNone(svg.FORBIDDEN.search(text))
+            self.assertIsNone(re.search(svg.FORBIDDEN, text))
             text.encode()
 
     def test_nothing_is_fetched(self):

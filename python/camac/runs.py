@@ -12,7 +12,7 @@ from camac.functions import CONTROLLERS
 from camac.histograms import Pairs, Series, Spectrum
 from camac.numbers import Numbers, chosen, ends, join, kinds, met, order, scaled, total, whole, within
 from camac.late import Late
-from camac.output import Progress
+from camac.output import Progress, dropped
 from camac.program import knows_command
 from camac.subcommands import costs, run
 from camac.texts import script_text
@@ -302,13 +302,11 @@ def collect(
     if is_event_file(inputs.source):
         made = _read_event_file(inputs.source, services, asked)
     else:
-        import tempfile
-
-        with tempfile.NamedTemporaryFile(suffix=".events") as events, open(inputs.source, "rb") as answers:
+        with dropped() as events, open(inputs.source, "rb") as answers:
             meant = transfer_commands(costs(inputs.plan, inputs.script, program), script_text(inputs.script)) if knows_command("costs", program) else frozenset()
             collector = _Collector(plan, {it.name: it.gl for it in services}, Contradictions(responses), meant, asked)
-            collector.take(run(*inputs, events.name, program=program), answers)
-            made = _compare(collector, events.name, services)
+            collector.take(run(*inputs, events, program=program), answers)
+            made = _compare(collector, events, services)
             made.contradictions = collector.seen.found(plan)
             if responses:
                 late = made.late = collector.seen.watch.seen()
