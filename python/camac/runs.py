@@ -1,7 +1,6 @@
 """What a run did, in numbers of a fixed size: from the listing of `camac run` and its event file, or from an event file alone."""
-import enum
 from array import array
-from typing import Dict, FrozenSet, Iterable, Iterator, List, NamedTuple, Optional, Sequence, Tuple, Union
+from typing import TYPE_CHECKING, Dict, FrozenSet, Iterable, Iterator, List, NamedTuple, Optional, Sequence, Tuple, Union
 
 from camac.arrays import BATCH, EventArrays, Events, Group, batches, event_pieces, groups
 from camac.contradictions import NO_X, Contradictions
@@ -18,7 +17,9 @@ from camac.subcommands import costs, run
 from camac.texts import script_text
 from camac.transfers import transfer_commands
 from camac.values import Command, Contradiction, Cycle, Demand, Ending, Item, Lock, Move, Plan, Response, RunEnd, Service, Unlock
-from camac.words import COUNTER, SPECTRUM, Column, Words
+
+if TYPE_CHECKING:
+    from camac.words import Column, Words
 
 Operation = Union[Cycle, Lock, Unlock]
 # The operations that are kept of a service that is shown cycle by cycle.
@@ -26,6 +27,9 @@ KEPT_OPERATIONS = 150
 GREATEST_MISSED = 65_535
 # The bins of the words at a place: enough for a map.
 PLACE_BINS = 128
+# Why a service is shown cycle by cycle, and how that is said.
+MISSED, UNFINISHED, LONGEST = "missed", "unfinished", "longest"
+REASONS = {MISSED: "first X = 0", UNFINISHED: "it did not come to its end", LONGEST: "the longest of its kind"}
 # What a word of all its bits holds at most.
 FULL_WORD = (1 << 24) - 1
 
@@ -36,25 +40,6 @@ class Inputs(NamedTuple):
     plan: File
     script: File
     source: File
-
-
-class Why(enum.Enum):
-    """Why a service is shown cycle by cycle."""
-
-    MISSED = "first X = 0"
-    UNFINISHED = "it did not come to its end"
-    LONGEST = "the longest of its kind"
-
-
-class Kept(NamedTuple):
-    """A service that is shown cycle by cycle: its number in the run, its graded-L bit, its dataway cycles, its first operations, and how
-    many more there are."""
-
-    number: int
-    gl: int
-    cycles: int
-    operations: List[Operation]
-    more: int
 
 
 class Seen(NamedTuple):
@@ -112,8 +97,8 @@ class Asked(NamedTuple):
     """What is asked of the words of events: the columns that they have, two of these that are wanted against each other, the most bins, gates that an event
     has to pass, and regions that are measured."""
 
-    names: Words = Words()
-    pair: Optional[Tuple[Column, Column]] = None
+    names: "Optional[Words]" = None
+    pair: "Optional[Tuple[Column, Column]]" = None
     bins: Optional[int] = None
     gates: Tuple["Cut", ...] = ()
     regions: Tuple["Cut", ...] = ()
@@ -127,11 +112,11 @@ class Asked(NamedTuple):
 class Cut(NamedTuple):
     """The numbers of a column from the first to the last one."""
 
-    column: Column
+    column: "Column"
     low: int
     last: int
 
-    def select(self, names: Words, of: Sequence[Group]) -> List[Group]:
+    def select(self, names: "Words", of: Sequence[Group]) -> List[Group]:
         """The events that have such a number."""
         gathered = [it for it in names.numbers(of, {self.column.field}) if it.column == self.column]
         passed = join([within(it.numbers, self.low, self.last, it.events) for it in gathered]) if gathered else []
@@ -147,7 +132,9 @@ class Channel:
 
     __slots__ = ("column", "spectrum", "series")
 
-    def __init__(self, column: Column) -> None:
+    def __init__(self, column: "Column") -> None:
+        from camac.words import COUNTER, SPECTRUM
+
         self.column = column
         self.spectrum = Spectrum(None if column.greatest == FULL_WORD else column.greatest + 1)
         kind = column.field.kind
@@ -159,7 +146,7 @@ class Channel:
             self.series.add_all(*order(events, numbers))
 
 
-class Channels(Dict[Column, Channel]):
+class Channels(Dict["Column", Channel]):
     """The channels of a run, by their columns. `regions` have the numbers of each region, from its first one on, `pairs` those of two columns that are in
     one event."""
 
@@ -173,9 +160,11 @@ class Channels(Dict[Column, Channel]):
     def take(self, of: Sequence[Group]) -> None:
         """Takes the words of the events that pass the gates; of a pair, of each event that has both columns, the first number of both."""
         names, pair = self.asked.names, self.asked.pair or ()
+        if names is None:
+            return
         for gate in self.asked.gates:
             of = gate.select(names, of)
-        sides: Dict[Column, Tuple[Numbers, Numbers]] = {}
+        sides: "Dict[Column, Tuple[Numbers, Numbers]]" = {}
         for column, events, numbers in names.numbers(of, {it.field for it in pair}):
             if column not in self:
                 self[column] = Channel(column)
@@ -191,7 +180,8 @@ class Channels(Dict[Column, Channel]):
 
     def listed(self, bits: Iterable[int]) -> List[Channel]:
         """Those that have a number, in the order of the columns of these bits."""
-        return [self[it] for gl in sorted(bits) for it in self.asked.names.columns(gl) if it in self]
+        names = self.asked.names
+        return [self[it] for gl in sorted(bits) for it in names.columns(gl) if it in self] if names else []
 
 
 class Over(NamedTuple):
@@ -203,18 +193,15 @@ class Over(NamedTuple):
     why: str
 
 
-class InProgress:
-    """A service whose operations are being read."""
+class Served:
+    """A service whose operations are read: what is counted of it, its number in the run if it is kept, its first operations, and how many more there are."""
 
-    __slots__ = ("gl", "cycles", "waits", "no_q", "of_transfers", "no_x", "locked", "locks", "operations", "count")
+    __slots__ = ("gl", "number", "cycles", "waits", "no_q", "of_transfers", "no_x", "locked", "locks", "operations", "more")
 
     def __init__(self, gl: int) -> None:
         self.gl = gl
-        self.cycles = self.waits = self.no_q = self.of_transfers = self.no_x = self.locked = self.locks = self.count = 0
+        self.number = self.cycles = self.waits = self.no_q = self.of_transfers = self.no_x = self.locked = self.locks = self.more = 0
         self.operations: List[Operation] = []
-
-    def kept(self, number: int) -> Kept:
-        return Kept(number, self.gl, self.cycles, self.operations, self.count - len(self.operations))
 
 
 class Run:
@@ -237,7 +224,7 @@ class Run:
         self.end: Optional[RunEnd] = None
         self.fault: Optional[EventFileFault] = None
         self.commands: Dict[Command, Sent] = {}
-        self.kept: Dict[Tuple[Why, int], Kept] = {}
+        self.kept: Dict[Tuple[str, int], Served] = {}
         self.by_place: Dict[Tuple[int, int], Spectrum] = {}
         self.asked = asked or Asked()
         self.channels = Channels(self.asked)
@@ -339,10 +326,10 @@ class _Collector:
         self.plan, self.bits, self.seen, self.meant = plan, bits, seen, meant
         self.run = Run(True, asked)
         self.longest: Dict[int, int] = {}
-        self.open: Optional[InProgress] = None
+        self.open: Optional[Served] = None
 
     def take(self, items: Iterable[Item], answers: Iterable[bytes]) -> None:
-        service = InProgress(0)
+        service = Served(0)
         commands = self.run.commands
         lines = iter(answers)
         for item in items:
@@ -361,16 +348,17 @@ class _Collector:
             elif isinstance(item, Demand):
                 self.close()
                 self.seen.take(item, line)
-                service = InProgress(self.bits.get(item.service or "", 0))
+                service = Served(self.bits.get(item.service or "", 0))
                 self.open = service if item.service else None
                 self.run.idle += item.service is None
                 continue
             else:
                 self.run.end = item
                 continue
-            service.count += 1
-            if service.count <= KEPT_OPERATIONS:
+            if len(service.operations) < KEPT_OPERATIONS:
                 service.operations.append(item)
+            else:
+                service.more += 1
 
     def close(self) -> None:
         """The service in progress came to its end."""
@@ -381,13 +369,14 @@ class _Collector:
         self.seen.cycles = service.cycles
         for name in ("gl", "cycles", "waits", "no_q", "of_transfers", "no_x", "locked"):
             getattr(run, name).append(getattr(service, name))
+        service.number = len(run.gl)
         if service.cycles > self.longest.get(service.gl, -1):
             self.longest[service.gl] = service.cycles
-            run.kept[Why.LONGEST, service.gl] = service.kept(len(run.gl))
-        if service.no_x and (Why.MISSED, 0) not in run.kept:
-            run.kept[Why.MISSED, 0] = service.kept(len(run.gl))
+            run.kept[LONGEST, service.gl] = service
+        if service.no_x:
+            run.kept.setdefault((MISSED, 0), service)
 
-    def take_cycle(self, service: InProgress, sent: Sent, item: Cycle) -> None:
+    def take_cycle(self, service: Served, sent: Sent, item: Cycle) -> None:
         command, move, word, x, q, wait = item
         service.cycles += 1 + wait
         sent.count += 1
@@ -433,7 +422,8 @@ def _compare(collector: _Collector, path: File, services: List[Service]) -> Run:
     for sent in run.commands.values():
         sent.settle()
     if collector.open:
-        run.kept[Why.UNFINISHED, 0] = collector.open.kept(len(run.gl) + 1)
+        collector.open.number = len(run.gl) + 1
+        run.kept[UNFINISHED, 0] = collector.open
     said = run.end.events if run.end else None
     total = len(run.gl)
     last = f"; the last line says {said:,}" if said is not None else ""
