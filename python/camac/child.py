@@ -2,15 +2,20 @@
 import os
 import signal
 import time
-from typing import Any, List, Optional, TypeVar
+from typing import TYPE_CHECKING, Any, List, Optional, TypeVar, Union
 
-Its = TypeVar("Its", bound="Child")
+if TYPE_CHECKING:
+    File = Union[str, bytes, os.PathLike[str], os.PathLike[bytes]]
+else:
+    # Python 3.8 has no PathLike[str]. As a text it would be compiled, and the first text that is costs as much as ten modules.
+    File = Any
+Its = TypeVar("Its")
 
 
 class Child:
     """A program at work. Its output comes through the pipe `stdout`; its standard error is kept in a file, of any length."""
 
-    def __init__(self, words: List[Any], given: Optional[bytes] = b"") -> None:
+    def __init__(self, words: List[File], given: Optional[bytes] = b"") -> None:
         """Starts it. `given` is its standard input. If that is None it is the pipe `stdin`, and Ctrl-C reaches Python alone. Raises OSError if it cannot be
         started."""
         if given is None:

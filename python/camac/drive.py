@@ -7,7 +7,7 @@ import os
 import select
 from typing import TYPE_CHECKING, List, NamedTuple, NoReturn, Optional, Protocol, Union
 
-from camac.child import Child
+from camac.child import Child, File as File
 from camac.contradictions import seen_of
 from camac.printed import REFUSAL, read_end, read_request
 from camac.values import Ending, Refusal, Request, RunEnd
@@ -16,7 +16,6 @@ if TYPE_CHECKING:
     from camac.record import Recording
     from camac.signals import Signals
 
-File = Union[str, bytes, "os.PathLike[str]", "os.PathLike[bytes]"]
 GREATEST_LINE = 4096
 GREATEST = {"x": 1, "q": 1, "word": 0xFF_FFFF, "wait": 15, "gl": 0xFF_FFFF}
 # The most seconds that a wait of the system takes.

@@ -5,7 +5,9 @@ import os
 import struct
 from typing import Any, BinaryIO, Callable, Dict, Iterator, List, NamedTuple, Optional, Tuple, Union
 
-Path = Union[str, bytes, "os.PathLike[str]", "os.PathLike[bytes]"]
+from camac import child
+
+Path = child.File
 File = Union[Path, BinaryIO]
 HEADER = 8
 MARKER = 0xCA4D

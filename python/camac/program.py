@@ -91,8 +91,8 @@ def lines_of(*words: File, program: Optional[File] = None) -> Iterator[str]:
     if found == IN_PROCESS:
         yield from _of_library(*words).text.splitlines()
         return
-    with Child([found, *words]) as started:
-        for line in io.BufferedReader(started.stdout, 1 << 16):
+    with Child([found, *words]) as started, io.BufferedReader(started.stdout, 1 << 16) as printed:
+        for line in printed:
             yield line.decode("utf-8", "replace").rstrip("\n")
         started.wait()
         if started.status not in (0, REFUSED):

@@ -1,6 +1,6 @@
 """What a run did, in numbers of a fixed size: from the listing of `camac run` and its event file, or from an event file alone."""
 from array import array
-from typing import TYPE_CHECKING, Dict, FrozenSet, Iterable, Iterator, List, NamedTuple, Optional, Sequence, Tuple, Union
+from typing import TYPE_CHECKING, Any, Dict, FrozenSet, Iterable, Iterator, List, NamedTuple, Optional, Sequence, Tuple, Union
 
 from camac.arrays import BATCH, EventArrays, Events, Group, batches, event_pieces, groups
 from camac.contradictions import NO_X, Contradictions
@@ -20,6 +20,8 @@ from camac.values import Command, Contradiction, Cycle, Demand, Ending, Item, Lo
 
 if TYPE_CHECKING:
     from camac.words import Column, Words
+else:
+    Column = Words = Any
 
 Operation = Union[Cycle, Lock, Unlock]
 # The operations that are kept of a service that is shown cycle by cycle.
@@ -93,30 +95,14 @@ class Sent:
         self.recent, self.numbers = [], []
 
 
-class Asked(NamedTuple):
-    """What is asked of the words of events: the columns that they have, two of these that are wanted against each other, the most bins, gates that an event
-    has to pass, and regions that are measured."""
-
-    names: "Optional[Words]" = None
-    pair: "Optional[Tuple[Column, Column]]" = None
-    bins: Optional[int] = None
-    gates: Tuple["Cut", ...] = ()
-    regions: Tuple["Cut", ...] = ()
-
-    def gated(self) -> str:
-        """Of which events the words are, as the end of a title."""
-        cuts = " and ".join(f"{it.column.name} from {it.low:,} to {it.last:,}" for it in self.gates)
-        return cuts and f", of events with {cuts}"
-
-
 class Cut(NamedTuple):
     """The numbers of a column from the first to the last one."""
 
-    column: "Column"
+    column: Column
     low: int
     last: int
 
-    def select(self, names: "Words", of: Sequence[Group]) -> List[Group]:
+    def select(self, names: Words, of: Sequence[Group]) -> List[Group]:
         """The events that have such a number."""
         gathered = [it for it in names.numbers(of, {self.column.field}) if it.column == self.column]
         passed = join([within(it.numbers, self.low, self.last, it.events) for it in gathered]) if gathered else []
@@ -127,12 +113,28 @@ class Cut(NamedTuple):
         return [it for it in found if len(it.numbers)]
 
 
+class Asked(NamedTuple):
+    """What is asked of the words of events: the columns that they have, two of these that are wanted against each other, the most bins, gates that an event
+    has to pass, and regions that are measured."""
+
+    names: Optional[Words] = None
+    pair: Optional[Tuple[Column, Column]] = None
+    bins: Optional[int] = None
+    gates: Tuple[Cut, ...] = ()
+    regions: Tuple[Cut, ...] = ()
+
+    def gated(self) -> str:
+        """Of which events the words are, as the end of a title."""
+        cuts = " and ".join(f"{it.column.name} from {it.low:,} to {it.last:,}" for it in self.gates)
+        return cuts and f", of events with {cuts}"
+
+
 class Channel:
     """The numbers of a column in the events of a run: a spectrum, and of what is shown over the run its line."""
 
     __slots__ = ("column", "spectrum", "series")
 
-    def __init__(self, column: "Column") -> None:
+    def __init__(self, column: Column) -> None:
         from camac.words import COUNTER, SPECTRUM
 
         self.column = column
@@ -146,7 +148,7 @@ class Channel:
             self.series.add_all(*order(events, numbers))
 
 
-class Channels(Dict["Column", Channel]):
+class Channels(Dict[Any, Channel]):
     """The channels of a run, by their columns. `regions` have the numbers of each region, from its first one on, `pairs` those of two columns that are in
     one event."""
 
@@ -164,7 +166,7 @@ class Channels(Dict["Column", Channel]):
             return
         for gate in self.asked.gates:
             of = gate.select(names, of)
-        sides: "Dict[Column, Tuple[Numbers, Numbers]]" = {}
+        sides: Dict[Column, Tuple[Numbers, Numbers]] = {}
         for column, events, numbers in names.numbers(of, {it.field for it in pair}):
             if column not in self:
                 self[column] = Channel(column)

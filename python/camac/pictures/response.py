@@ -25,7 +25,7 @@ class Piece(NamedTuple):
     tip: str
 
 
-def draw_response(responses: Sequence[Response], run: Optional["Run"] = None) -> Canvas:
+def draw_response(responses: Sequence[Response], run: "Optional[Run]" = None) -> Canvas:
     """Draws a bar for each service; `responses` are those of all services of a script, in the order of bits."""
     canvas = Canvas("How late each service can be, from its look-at-me to its end")
     canvas.text(LEFT, 14, "cycles from a look-at-me to the end of its service, at most", "mute s11")
