@@ -11,6 +11,7 @@ from camac.runs import Asked, Channels, Cut, Inputs, Over, Run, collect, is_even
 from camac.values import Plan, Response, Service
 
 if TYPE_CHECKING:
+    from camac.record import Record
     from camac.words import Column, Words
 
 
@@ -63,15 +64,13 @@ def gather(
         names = camac.read_words(naming.file, services, *([names] if names else []))
     asked = asked_of(naming or Naming(), names)
     run = collect(inputs, plan, services, program, responses, asked)
-    if not run.has_listing or (naming and naming.over is not None):
-        from camac.record import beside
-    record = None if run.has_listing else beside(inputs.source)
+    record = None if run.has_listing else _beside(inputs.source)
     run.contradictions = record.contradictions if record else run.contradictions
     run.checks += _compare_record(inputs)
     if naming and naming.over is not None:
         others = inputs._replace(source=naming.over)
         other = collect(others, plan, services, program, (), Asked(asked.names, gates=asked.gates))
-        live = [found.demands if found else None for found in map(beside, (inputs.source, naming.over))]
+        live = [found.demands if found else None for found in map(_beside, (inputs.source, naming.over))]
         run.over = lay_over(naming.over, other.channels, live, *({gl: it.cycles.count for gl, it in one.seen.items()} for one in (run, other)))
         run.checks += [it._replace(text=f"{run.over.name}: {it.text}") for it in (*other.checks, *_compare_record(others))]
     return run
@@ -85,9 +84,18 @@ def lay_over(file: File, channels: Channels, live: Sequence[Optional[float]], of
     return Over(name, channels, {gl: of[gl] / count for gl, count in over.items() if count and gl in of}, "for as many events")
 
 
+def _beside(file: File) -> "Optional[Record]":
+    """The record beside a file. What reads one is loaded where there may be one."""
+    if not os.path.exists(f"{os.path.splitext(os.fsdecode(file))[0]}.json"):
+        return None
+    from camac.record import beside
+
+    return beside(file)
+
+
 def _compare_record(inputs: Inputs) -> List[Check]:
     """Whether plan and script are those of the record that is beside an event file."""
-    if not is_event_file(inputs.source):
+    if not is_event_file(inputs.source) or _beside(inputs.source) is None:
         return []
     from camac.record import record_checks, texts_of
 

@@ -16,7 +16,7 @@ from camac.program import knows_command
 from camac.subcommands import costs, run
 from camac.texts import script_text
 from camac.transfers import transfer_commands
-from camac.values import Command, Contradiction, Cycle, Demand, Ending, Item, Lock, Move, Plan, Response, RunEnd, Service, Unlock
+from camac.values import Body, Command, Contradiction, Cycle, Demand, Ending, Item, Lock, Move, Plan, Response, RunEnd, Service, Unlock
 
 if TYPE_CHECKING:
     from camac.words import Column, Words
@@ -216,7 +216,7 @@ class Run:
     version one. `end` is the end of a run, `fault` the fault of an event file. `kept` are services to be shown cycle by cycle.
     `by_place` has the words by the bit and by their place in the event, `channels` those of a column, `over` those of another run, `seen` what was seen of
     the services of each bit, and `late` how late they ended, where a listing and `camac response` show that. `contradictions` are those of the plan; None
-    of an event file, which has no address, and words that are cut."""
+    of an event file, which has no address, and words that are cut. `bodies` are those of the script, where its answers are played."""
 
     def __init__(self, has_listing: bool, asked: Optional[Asked] = None) -> None:
         self.has_listing, self.has_cycles = has_listing, True
@@ -234,6 +234,7 @@ class Run:
         self.seen: Dict[int, SeenOfBit] = {}
         self.late: Dict[int, Late] = {}
         self.contradictions: Optional[Tuple[Contradiction, ...]] = None
+        self.bodies: List[Body] = []
         self.checks: List[Check] = []
 
     def last_line(self) -> str:
@@ -292,11 +293,12 @@ def collect(
         made = _read_event_file(inputs.source, services, asked)
     else:
         with dropped() as events, open(inputs.source, "rb") as answers:
-            meant = transfer_commands(costs(inputs.plan, inputs.script, program), script_text(inputs.script)) if knows_command("costs", program) else frozenset()
+            bodies = costs(inputs.plan, inputs.script, program) if knows_command("costs", program) else []
+            meant = transfer_commands(bodies, script_text(inputs.script))
             collector = _Collector(plan, {it.name: it.gl for it in services}, Contradictions(responses), meant, asked)
             collector.take(run(*inputs, events, program=program), answers)
             made = _compare(collector, events, services)
-            made.contradictions = collector.seen.found(plan)
+            made.bodies, made.contradictions = bodies, collector.seen.found(plan)
             if responses:
                 late = made.late = collector.seen.watch.seen()
                 kept = sum(it.count for it in late.values())

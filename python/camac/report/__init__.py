@@ -46,7 +46,7 @@ def report(
         run = gather(inputs, plan, services, program, responses or (), naming)
     except Refused as refusal:
         return Report(_refused_page(inputs, str(refusal), program), 1)
-    bodies = costs(inputs.plan, inputs.script, program) if knows_command("costs", program) else None
+    bodies = run.bodies or (costs(inputs.plan, inputs.script, program) if knows_command("costs", program) else None)
     if bodies is not None:
         run.checks.append(_shares_check(bodies))
     if survey is not None:
