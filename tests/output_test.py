@@ -55,14 +55,13 @@ finally:
 # Somebody writes at the place that is the first word, once a command has looked there and makes its new file.
 SAVED = "saved meanwhile\n"
 SAVES = f"""
-import sys
-from camac import output
-place, make = sys.argv.pop(1), output._make
-def make_later(folder, end):
+import sys, tempfile
+place, make = sys.argv.pop(1), tempfile.mkstemp
+def make_later(*words):
     with open(place, "a") as out:
-        out.write({SAVED!r} if end == ".new" else "")
-    return make(folder, end)
-output._make = make_later
+        out.write({SAVED!r})
+    return make(*words)
+tempfile.mkstemp = make_later
 """
 WIDE = STRAIGHT_LINE.decode().replace("within 3 cycles event 1", "within 30 cycles event 10")
 KEEPS = """cdlam adc 1 1 5 12

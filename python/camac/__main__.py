@@ -5,7 +5,7 @@ import importlib
 import sys
 from typing import Callable, List, Optional
 
-from camac.commands.running import LOST, STATUS, Help, read_every, refuse_pipes
+from camac.commands.running import LOST, STATUS, read_every, refuse_pipes
 from camac.commands.running import main as run_command
 from camac.output import is_one_of
 
@@ -21,9 +21,10 @@ variable CAMAC_PROGRAM names."""
 
 
 def make_parser(words: List[str]) -> argparse.ArgumentParser:
-    top = argparse.ArgumentParser(prog="python3 -m camac", description=DESCRIPTION, epilog=STATUS, formatter_class=Help)
-    made = functools.partial(argparse.ArgumentParser, formatter_class=Help)
-    commands = top.add_subparsers(prog=top.prog, dest="command", metavar="COMMAND", required=True, parser_class=made)  # type: ignore[call-overload]
+    raw = argparse.RawDescriptionHelpFormatter
+    top = argparse.ArgumentParser(prog="python3 -m camac", description=DESCRIPTION, epilog=STATUS, formatter_class=raw)
+    made = functools.partial(argparse.ArgumentParser, formatter_class=raw)
+    commands = top.add_subparsers(dest="command", metavar="COMMAND", required=True, parser_class=made)  # type: ignore[call-overload]
     for name in words[:1] if words[:1] and words[0] in COMMANDS else COMMANDS:
         importlib.import_module(f"camac.commands.{name}").add_to(commands)
     return top

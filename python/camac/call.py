@@ -2,7 +2,6 @@
 from typing import Optional, Union
 
 from camac.drive import Answer, Branch, File, branch_of, drive
-from camac.output import dropped
 from camac.subcommands import check
 from camac.values import RunEnd
 
@@ -23,8 +22,10 @@ def call(
     once = _Once(branch_of(branch, plan), bits[service])
     if events is not None:
         return drive(plan, script, once, events, program=program, timeout=timeout)
-    with dropped() as unread:
-        return drive(plan, script, once, unread, program=program, timeout=timeout)
+    import tempfile
+
+    with tempfile.NamedTemporaryFile(suffix=".events") as dropped:
+        return drive(plan, script, once, dropped.name, program=program, timeout=timeout)
 
 
 class _Once:

@@ -7,15 +7,17 @@ import os
 import select
 from typing import TYPE_CHECKING, List, NamedTuple, NoReturn, Optional, Protocol, Union
 
-from camac.child import Child, File as File
 from camac.contradictions import seen_of
 from camac.printed import REFUSAL, read_end, read_request
 from camac.values import Ending, Refusal, Request, RunEnd
 
 if TYPE_CHECKING:
+    import subprocess
+
     from camac.record import Recording
     from camac.signals import Signals
 
+File = Union[str, bytes, "os.PathLike[str]", "os.PathLike[bytes]"]
 GREATEST_LINE = 4096
 GREATEST = {"x": 1, "q": 1, "word": 0xFF_FFFF, "wait": 15, "gl": 0xFF_FFFF}
 # The most seconds that a wait of the system takes.
@@ -323,14 +325,38 @@ class _Run:
         raise error
 
 
-class _Program(Child):
-    """The program at work, which writes in lines. Ctrl-C reaches Python alone, which then ends the run."""
+class _Program:
+    """The program at work, with its standard streams. Its standard error is kept in a file, so that it can be of any length."""
 
     def __init__(self, words: List[File], timeout: Optional[float]) -> None:
-        super().__init__(words, None)
-        self.timeout, self.unread = timeout, b""
+        # Both take as long to load as all of this package.
+        import subprocess
+        import tempfile
+
+        self.timeout = timeout
+        self.errors = tempfile.TemporaryFile()
+        try:
+            # A session of its own: Ctrl-C reaches Python alone, which then ends the run.
+            self.process: "subprocess.Popen[bytes]" = subprocess.Popen(
+                words, bufsize=0, stdin=subprocess.PIPE, stdout=subprocess.PIPE, stderr=self.errors, start_new_session=True
+            )
+        except BaseException:
+            self.errors.close()
+            raise
+        assert self.process.stdin and self.process.stdout
+        self.stdin, self.stdout = self.process.stdin, self.process.stdout
+        self.unread = b""
         self.poll = select.poll()
         self.poll.register(self.stdout, select.POLLIN)
+
+    def __enter__(self) -> "_Program":
+        return self
+
+    def __exit__(self, *_raised: object) -> None:
+        self.kill()
+        self.stdin.close()
+        self.stdout.close()
+        self.errors.close()
 
     def read_line(self) -> Optional[bytes]:
         """Returns the next line without its LF, or None at the end of the output. A line that was cut is none."""
@@ -363,17 +389,27 @@ class _Program(Child):
         more = self.read_line()
         if more is not None:
             raise ProtocolFault(f"camac wrote a line after its last one: {more!r}")
-        if not self.wait(self.timeout):
-            raise TimeFault(f"camac did not end in {self.timeout} seconds")
-        if self.status not in (0, 1):
-            raise fault_of(self.error_text().rstrip("\n"), self.status, end)
+        import subprocess
+
+        try:
+            status = self.process.wait(self.timeout)
+        except subprocess.TimeoutExpired:
+            raise TimeFault(f"camac did not end in {self.timeout} seconds") from None
+        self.errors.seek(0)
+        if status not in (0, 1):
+            raise fault_of(self.errors.read().decode(errors="replace").rstrip("\n"), status, end)
         if end is None:
             raise ProtocolFault("camac ended without a last line")
-        if self.status != STATUS[end.how]:
-            raise ProtocolFault(f"camac ended with status {self.status} after {end.line!r}")
+        if status != STATUS[end.how]:
+            raise ProtocolFault(f"camac ended with status {status} after {end.line!r}")
         if end.is_refused_script():
             raise Refused(end.line)
         return end
+
+    def kill(self) -> None:
+        if self.process.poll() is None:
+            self.process.kill()
+        self.process.wait()
 
 
 def add_note(error: BaseException, note: str) -> None:

@@ -5,9 +5,7 @@ import os
 import struct
 from typing import Any, BinaryIO, Callable, Dict, Iterator, List, NamedTuple, Optional, Tuple, Union
 
-from camac import child
-
-Path = child.File
+Path = Union[str, bytes, "os.PathLike[str]", "os.PathLike[bytes]"]
 File = Union[Path, BinaryIO]
 HEADER = 8
 MARKER = 0xCA4D

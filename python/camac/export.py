@@ -12,7 +12,7 @@ from camac.arrays import Array, EventArrays, Events, arrays_of, event_pieces, gr
 from camac.drive import File, ProgramFault
 from camac.events import GREATEST_COUNT, GREATEST_GL, EventFileFault
 from camac.fits import Check, Fit, refuse
-from camac.output import anything, bytes_output, dropped, nothing, Progress, refuse_loss
+from camac.output import anything, bytes_output, nothing, Progress, refuse_loss
 from camac.record import Record, Source, beside, read_record, record_checks, texts_of
 from camac.subcommands import check, plan as read_plan
 from camac.texts import script_text
@@ -97,11 +97,18 @@ def learn(given: Given, program: Optional[File] = None) -> About:
 
 def _judge(plan: Source, script: Source, program: Optional[File]) -> Tuple[List[Service], Words]:
     """The services of a script that is given as its text, and what it says of words."""
+    import tempfile
+
     from camac.word_sources import words_of_script
 
-    with dropped(plan.data, ".toml") as its_plan, dropped(script.data, ".script") as its_script:
-        services = check(its_plan, its_script, program)
-        return services, words_of_script(read_plan(its_plan, program), its_script, services)
+    with tempfile.TemporaryDirectory(prefix="camac-") as room:
+        files = []
+        for name, source in (("plan", plan), ("script", script)):
+            files.append(os.path.join(room, name))
+            with open(files[-1], "wb") as out:
+                out.write(source.data)
+        services = check(files[0], files[1], program)
+        return services, words_of_script(read_plan(files[0], program), files[1], services)
 
 
 class Series(NamedTuple):

@@ -166,12 +166,14 @@ def _stream_of(status: os.stat_result) -> Optional[int]:
 @contextlib.contextmanager
 def _replacement(path: str, rule: Rule) -> Iterator[BinaryIO]:
     """A new file, under a name that no other call has, that takes the place of a regular file or of none, if the rule lets it."""
+    import tempfile
+
     place = os.path.realpath(path)
     with _named(path):
         if not os.path.basename(path):
             raise IsADirectoryError(errno.EISDIR, os.strerror(errno.EISDIR))
         _look(path, rule)
-        descriptor, new = _make(os.path.dirname(place), ".new")
+        descriptor, new = tempfile.mkstemp(".new", "camac-", os.path.dirname(place))
     try:
         with _buffered(descriptor, path) as file:
             yield file
@@ -191,25 +193,6 @@ def _replacement(path: str, rule: Rule) -> Iterator[BinaryIO]:
     # Not every disk can be asked for this of a folder.
     with contextlib.suppress(OSError):
         _sync(os.path.dirname(place))
-
-
-def _make(folder: str, end: str) -> Tuple[int, str]:
-    """A new file, open to write, under a name that no other call has. `tempfile` takes long to load."""
-    name = os.path.join(folder, f"camac-{os.urandom(8).hex()}{end}")
-    return os.open(name, os.O_WRONLY | os.O_CREAT | os.O_EXCL | os.O_CLOEXEC, 0o600), name
-
-
-@contextlib.contextmanager
-def dropped(text: bytes = b"", end: str = ".events") -> Iterator[str]:
-    """The name of a file with this text, which is removed at the end of the block."""
-    descriptor, name = _make(os.environ.get("TMPDIR") or "/tmp", end)
-    try:
-        with open(descriptor, "wb") as file:
-            file.write(text)
-        yield name
-    finally:
-        with contextlib.suppress(FileNotFoundError):
-            os.remove(name)
 
 
 def _is_made_alike(new: str, place: str) -> bool:

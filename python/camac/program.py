@@ -1,14 +1,12 @@
 """What the program camac prints, as text: it is called with the words of a subcommand, and its statuses become exceptions.
 
 If no program is there, the library for C answers in this process what it can (`COMMANDS`). So it does where `@library` is named as the
-program. It is loaded when it is called: that takes as long as to load all of this package."""
+program. The library and what calls another process are each loaded when they are called: both take as long to load as all of this package."""
 import functools
-import io
 import itertools
 import os
-from typing import Iterator, List, Mapping, NamedTuple, Optional, Tuple
+from typing import Any, Dict, Iterator, List, Mapping, NamedTuple, Optional, Tuple
 
-from camac.child import Child
 from camac.drive import File, Refused, UsageFault, fault_of, find_program
 from camac.printed import is_known, is_refused
 from camac.texts import plan_text
@@ -76,12 +74,13 @@ def output_of(*words: File, program: Optional[File] = None) -> str:
     return printed
 
 
-def _called(program: str, *words: File, given: bytes = b"") -> Tuple[int, str, str]:
+def _called(program: str, *words: File, given: Optional[bytes] = None) -> Tuple[int, str, str]:
     """The status of the program, and what it prints to standard output and standard error."""
-    with Child([program, *words], given) as started:
-        printed = started.stdout.read().decode(errors="replace")
-        started.wait()
-        return started.status, printed, started.error_text()
+    import subprocess
+
+    stdin: Dict[str, Any] = {"stdin": subprocess.DEVNULL} if given is None else {"input": given}
+    done = subprocess.run([program, *words], **stdin, stdout=subprocess.PIPE, stderr=subprocess.PIPE, check=False)
+    return done.returncode, done.stdout.decode(errors="replace"), done.stderr.decode(errors="replace")
 
 
 def lines_of(*words: File, program: Optional[File] = None) -> Iterator[str]:
@@ -91,12 +90,22 @@ def lines_of(*words: File, program: Optional[File] = None) -> Iterator[str]:
     if found == IN_PROCESS:
         yield from _of_library(*words).text.splitlines()
         return
-    with Child([found, *words]) as started, io.BufferedReader(started.stdout, 1 << 16) as printed:
-        for line in printed:
-            yield line.decode("utf-8", "replace").rstrip("\n")
-        started.wait()
-        if started.status not in (0, REFUSED):
-            _judge(started.status, "", started.error_text())
+    import subprocess
+    import tempfile
+
+    with tempfile.TemporaryFile() as errors:
+        with subprocess.Popen([found, *words], stdin=subprocess.DEVNULL, stdout=subprocess.PIPE, stderr=errors, bufsize=1 << 16) as started:
+            assert started.stdout
+            try:
+                for line in started.stdout:
+                    yield line.decode("utf-8", "replace").rstrip("\n")
+            except BaseException:
+                started.kill()
+                raise
+            status = started.wait()
+        errors.seek(0)
+        if status not in (0, REFUSED):
+            _judge(status, "", errors.read().decode(errors="replace"))
 
 
 def _judge(status: int, printed: str, errors: str) -> None:

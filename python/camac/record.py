@@ -13,7 +13,6 @@ import time
 from typing import TYPE_CHECKING, Any, Callable, Dict, List, Mapping, NamedTuple, Optional, Tuple, Union
 
 from camac.contradictions import Contradictions, plan_of
-from camac.digest import sha256
 from camac.drive import Answer, Branch, File, ProgramFault, UsageFault, add_note, file_fault, one_line
 from camac.events import EventFileFault, read_events
 from camac.fits import Check
@@ -69,7 +68,9 @@ class Source(NamedTuple):
 
     @property
     def sha256(self) -> str:
-        return str(sha256(self.data).hexdigest())
+        import hashlib
+
+        return hashlib.sha256(self.data).hexdigest()
 
     def value(self) -> Dict[str, str]:
         """As the record has it: the text; of what is no UTF-8, or has a NUL, as may be in comments, the bytes in base 64."""

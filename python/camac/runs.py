@@ -1,6 +1,6 @@
 """What a run did, in numbers of a fixed size: from the listing of `camac run` and its event file, or from an event file alone."""
 from array import array
-from typing import TYPE_CHECKING, Any, Dict, FrozenSet, Iterable, Iterator, List, NamedTuple, Optional, Sequence, Tuple, Union
+from typing import TYPE_CHECKING, Dict, FrozenSet, Iterable, Iterator, List, NamedTuple, Optional, Sequence, Tuple, Union
 
 from camac.arrays import BATCH, EventArrays, Events, Group, batches, event_pieces, groups
 from camac.contradictions import NO_X, Contradictions
@@ -11,7 +11,7 @@ from camac.functions import CONTROLLERS
 from camac.histograms import Pairs, Series, Spectrum
 from camac.numbers import Numbers, chosen, ends, join, kinds, met, order, scaled, total, whole, within
 from camac.late import Late
-from camac.output import Progress, dropped
+from camac.output import Progress
 from camac.program import knows_command
 from camac.subcommands import costs, run
 from camac.texts import script_text
@@ -20,8 +20,6 @@ from camac.values import Body, Command, Contradiction, Cycle, Demand, Ending, It
 
 if TYPE_CHECKING:
     from camac.words import Column, Words
-else:
-    Column = Words = Any
 
 Operation = Union[Cycle, Lock, Unlock]
 # The operations that are kept of a service that is shown cycle by cycle.
@@ -98,11 +96,11 @@ class Sent:
 class Cut(NamedTuple):
     """The numbers of a column from the first to the last one."""
 
-    column: Column
+    column: "Column"
     low: int
     last: int
 
-    def select(self, names: Words, of: Sequence[Group]) -> List[Group]:
+    def select(self, names: "Words", of: Sequence[Group]) -> List[Group]:
         """The events that have such a number."""
         gathered = [it for it in names.numbers(of, {self.column.field}) if it.column == self.column]
         passed = join([within(it.numbers, self.low, self.last, it.events) for it in gathered]) if gathered else []
@@ -117,8 +115,8 @@ class Asked(NamedTuple):
     """What is asked of the words of events: the columns that they have, two of these that are wanted against each other, the most bins, gates that an event
     has to pass, and regions that are measured."""
 
-    names: Optional[Words] = None
-    pair: Optional[Tuple[Column, Column]] = None
+    names: "Optional[Words]" = None
+    pair: "Optional[Tuple[Column, Column]]" = None
     bins: Optional[int] = None
     gates: Tuple[Cut, ...] = ()
     regions: Tuple[Cut, ...] = ()
@@ -134,7 +132,7 @@ class Channel:
 
     __slots__ = ("column", "spectrum", "series")
 
-    def __init__(self, column: Column) -> None:
+    def __init__(self, column: "Column") -> None:
         from camac.words import COUNTER, SPECTRUM
 
         self.column = column
@@ -148,7 +146,7 @@ class Channel:
             self.series.add_all(*order(events, numbers))
 
 
-class Channels(Dict[Any, Channel]):
+class Channels(Dict["Column", Channel]):
     """The channels of a run, by their columns. `regions` have the numbers of each region, from its first one on, `pairs` those of two columns that are in
     one event."""
 
@@ -292,12 +290,14 @@ def collect(
     if is_event_file(inputs.source):
         made = _read_event_file(inputs.source, services, asked)
     else:
-        with dropped() as events, open(inputs.source, "rb") as answers:
+        import tempfile
+
+        with tempfile.NamedTemporaryFile(suffix=".events") as events, open(inputs.source, "rb") as answers:
             bodies = costs(inputs.plan, inputs.script, program) if knows_command("costs", program) else []
             meant = transfer_commands(bodies, script_text(inputs.script))
             collector = _Collector(plan, {it.name: it.gl for it in services}, Contradictions(responses), meant, asked)
-            collector.take(run(*inputs, events, program=program), answers)
-            made = _compare(collector, events, services)
+            collector.take(run(*inputs, events.name, program=program), answers)
+            made = _compare(collector, events.name, services)
             made.bodies, made.contradictions = bodies, collector.seen.found(plan)
             if responses:
                 late = made.late = collector.seen.watch.seen()

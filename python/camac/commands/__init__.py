@@ -1,5 +1,1 @@
-"""The commands of the package, a module each, and what they have in common."""
-import gc
-
-# To look for garbage in what is loaded takes a tenth of a command's time, and finds none.
-gc.disable()
+"""Commands of `python3 -m camac`: each file has one, with its words and what it prints."""

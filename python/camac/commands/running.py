@@ -1,7 +1,6 @@
 """How a command runs, from its words to its status; and options of several commands."""
 import argparse
 import contextlib
-import gc
 import io
 import os
 import re
@@ -21,20 +20,6 @@ LOST = "{} is an input: it would be lost"
 GREATEST_EVERY = 4_294_967_295
 # Reads the words of a command line, and ends with status 2 if they are not understood.
 Parse = Callable[[List[str]], argparse.Namespace]
-
-
-class Help(argparse.RawDescriptionHelpFormatter):
-    """Asks for the width of the terminal where a text is written: argparse makes one of these for each argument, and what asks takes long to load."""
-
-    def __init__(self, prog: str) -> None:
-        super().__init__(prog, width=80)
-
-    def format_help(self) -> str:
-        import shutil
-
-        self._width = shutil.get_terminal_size().columns - 2
-        self._max_help_position = min(24, max(self._width - 20, 4))
-        return super().format_help()
 
 
 def refuse_pipes(parser: argparse.ArgumentParser, inputs: Sequence[str], takes_pipes: bool = False) -> None:
@@ -83,8 +68,6 @@ def _run(parse: Parse, words: List[str]) -> int:
     except SystemExit as stop:
         say(help_text.getvalue())
         return int(stop.code or DONE)
-    gc.freeze()
-    gc.enable()
     try:
         return int(args.do(args))
     except (Refused, EventFileFault) as refusal:

@@ -1,5 +1,6 @@
 """survey: asks the crates what they accept, and compares that with the plan."""
 import argparse
+import hashlib
 import itertools
 import os
 import re
@@ -7,7 +8,6 @@ import sys
 from typing import Any, Iterable, Iterator, List, Optional, Sequence, Tuple
 
 from camac import drivers
-from camac.digest import sha256
 from camac.drive import Branch, ProgramFault
 from camac.commands.running import DONE, FAULT, REFUSED, add_overwrite
 from camac.functions import name, reads, writes
@@ -68,8 +68,9 @@ def do(args: argparse.Namespace) -> int:
     _print([*_table(surveyed), *_ends(surveyed)])
     _keep(args.keep, surveyed.scripts())
     if args.out:
+        sha256 = hashlib.sha256(plan_text(args.plan)).hexdigest()
         with output(args.out, rule) as out:
-            out.write(summary(surveyed, sha256(plan_text(args.plan)).hexdigest()).text())
+            out.write(summary(surveyed, sha256).text())
     return REFUSED if surveyed.differences() else DONE
 
 

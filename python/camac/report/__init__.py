@@ -1,9 +1,9 @@
 """The report: one page of HTML with all that is known of a run. It fetches nothing, and opens from a file."""
 import contextlib
+import hashlib
 from typing import List, Mapping, NamedTuple, Optional
 
 from camac.columns import Naming, gather
-from camac.digest import sha256
 from camac.drive import File, Refused
 from camac.program import knows_command, lines_of
 from camac.proof import told
@@ -52,7 +52,7 @@ def report(
     if survey is not None:
         from camac.surveys.summary import read_summary
 
-        found, digest = read_summary(survey), sha256(plan_text(inputs.plan)).hexdigest()
+        found, digest = read_summary(survey), hashlib.sha256(plan_text(inputs.plan)).hexdigest()
         run.checks.append(Check(f"crates and plan: {'; '.join([found.line(digest), *found.differences])}", found.is_good(digest)))
     facts = sections.Facts(inputs, told(program), plan, services, source_lines(inputs.script), bodies, responses, run)
     text = page(f"{sections.base_name(inputs.script)}: report", sections.head(facts), [it(facts) for it in sections.PARTS])

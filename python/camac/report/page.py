@@ -1,8 +1,8 @@
 """HTML: the frame of a page, its style, its script, and tables that can be sorted."""
-import binascii
+import base64
+import hashlib
 from typing import NamedTuple, Sequence
 
-from camac.digest import sha256
 from camac.pictures.spectra import Group
 from camac.pictures.svg import DARK, LIGHT, MONO, SANS, Canvas, escape, page_style, variables
 
@@ -273,7 +273,7 @@ def header(title: str, parts: Sequence[str] = ()) -> str:
 def page(title: str, head: str, parts: Sequence[str], script: str = SORT + ZOOM, more: str = "") -> str:
     """A page that runs no script but its own. It fetches nothing, but for what `more` of its policy allows."""
     whole = SCRIPT + script
-    digest = binascii.b2a_base64(sha256(whole.encode()).digest(), newline=False).decode()
+    digest = base64.b64encode(hashlib.sha256(whole.encode()).digest()).decode()
     policy = f"default-src 'none';style-src 'unsafe-inline';script-src 'sha256-{digest}'{more}"
     return (
         '<!DOCTYPE html>\n<html lang="en"><head><meta charset="utf-8">'

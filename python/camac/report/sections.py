@@ -1,9 +1,9 @@
 """The parts of the page of a run, from its head to the checks."""
+import hashlib
 import os
 from typing import Dict, List, NamedTuple, Optional, Sequence, Tuple, Union
 
 from camac import functions
-from camac.digest import LONG, sha256
 from camac.drive import File
 from camac.values import Body, Ending, Plan, Response, Service
 from camac.pictures.bounds import draw_bounds
@@ -74,11 +74,11 @@ def _digest(path: File) -> str:
     """The first 12 digits of the SHA-256 of a file."""
     if os.fspath(path) in ("@sample", b"@sample"):
         return "(built in)"
+    total = hashlib.sha256()
     with open(path, "rb") as file:
-        total = sha256(file.read(LONG))
-        for piece in iter(lambda: file.read(LONG), b""):
+        for piece in iter(lambda: file.read(1 << 20), b""):
             total.update(piece)
-    return str(total.hexdigest()[:12])
+    return total.hexdigest()[:12]
 
 
 def tiles(facts: Facts) -> str:

@@ -1,4 +1,6 @@
 """The scripts that a survey asks a branch by: plans of its own, texts that the program judges, and what the branch answered."""
+import os
+import tempfile
 import time
 from typing import Iterable, List, NamedTuple, Optional, Tuple
 
@@ -6,7 +8,6 @@ from camac.call import call
 from camac.drive import Answer, Branch, File, ProgramFault, add_note
 from camac.functions import reads
 from camac.mock import Operation, Recorder
-from camac.output import dropped
 from camac.subcommands import plan as read_plan
 from camac.values import Command, Ending, Plan
 
@@ -108,7 +109,11 @@ def ask(script: Script, branch: Branch, program: Optional[File] = None, timeout:
     """Has the branch make a script, if the program accepts it. What the branch raises, and a wait that the plan does not permit, is the fault of what
     is returned. Raises what `camac.call` raises."""
     watched = _Watched(branch)
-    with dropped(script.plan.encode(), ".toml") as plan, dropped(script.text.encode(), ".script") as text:
+    with tempfile.TemporaryDirectory(prefix="camac-") as room:
+        plan, text = os.path.join(room, "plan.toml"), os.path.join(room, "asked.script")
+        for name, content in ((plan, script.plan), (text, script.text)):
+            with open(name, "w", encoding="utf-8", newline="\n") as file:
+                file.write(content)
         try:
             end = call(plan, text, SERVICE, watched, program=program, timeout=timeout)
             fault = "" if end.how is Ending.ENDED else f"a wait of {end.wait} cycles, which the plan does not permit"
