@@ -15,7 +15,7 @@ import tempfile
 import unittest
 
 from support.program import PROGRAM
-from camac.late import Watch
+from camac.contradictions import Watch
 from camac.printed import read_responses
 from camac.values import Harm
 from oracle.calls import Program

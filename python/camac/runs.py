@@ -1,22 +1,22 @@
 """What a run did, in numbers of a fixed size: from the listing of `camac run` and its event file, or from an event file alone."""
+import itertools
 from array import array
-from typing import TYPE_CHECKING, Dict, FrozenSet, Iterable, Iterator, List, NamedTuple, Optional, Sequence, Tuple, Union
+from typing import TYPE_CHECKING, Dict, FrozenSet, Iterable, Iterator, List, NamedTuple, Optional, Sequence, Set, Tuple, Union
 
 from camac.arrays import BATCH, EventArrays, Events, Group, batches, event_pieces, groups
-from camac.contradictions import NO_X, Contradictions
+from camac.contradictions import NO_X, Contradictions, Late
 from camac.drive import File
 from camac.events import EventFileFault, read_events
 from camac.fits import Check, Fit
 from camac.functions import CONTROLLERS
 from camac.histograms import Pairs, Series, Spectrum
+from camac.language import TRANSFERS
 from camac.numbers import Numbers, chosen, ends, join, kinds, met, order, scaled, total, whole, within
-from camac.late import Late
 from camac.output import Progress
 from camac.program import knows_command
 from camac.subcommands import costs, run
 from camac.texts import script_text
-from camac.transfers import transfer_commands
-from camac.values import Body, Command, Contradiction, Cycle, Demand, Ending, Item, Lock, Move, Plan, Response, RunEnd, Service, Unlock
+from camac.values import Body, Command, Contradiction, Cycle, Demand, Ending, Item, Lock, Move, Plan, Response, Row, RunEnd, Service, Unlock
 
 if TYPE_CHECKING:
     from camac.words import Column, Words
@@ -30,6 +30,8 @@ PLACE_BINS = 128
 # Why a service is shown cycle by cycle, and how that is said.
 MISSED, UNFINISHED, LONGEST = "missed", "unfinished", "longest"
 REASONS = {MISSED: "first X = 0", UNFINISHED: "it did not come to its end", LONGEST: "the longest of its kind"}
+# The sub-addresses of a station.
+SUB_ADDRESSES = 16
 # What a word of all its bits holds at most.
 FULL_WORD = (1 << 24) - 1
 
@@ -272,6 +274,35 @@ class Run:
 
     def list_channels(self) -> List[Channel]:
         return self.channels.listed(kinds(whole(self.gl)))
+
+
+def transfer_commands(bodies: Sequence[Body], script: bytes) -> FrozenSet[Command]:
+    """The commands that only transfers of an accepted script send: a Q = 0 of such a command ends a scan or a block, or has it sent again, as is meant.
+    `bodies` are what `camac.costs` gives."""
+    if not any(row.word in TRANSFERS for body in bodies for row in body.rows):
+        return frozenset()
+    from camac import tree
+    from camac.reader import read_script
+
+    sent: Dict[bool, Set[Command]] = {True: set(), False: set()}
+    for body, costs in zip(read_script(script).bodies, bodies):
+        for it, row in zip(body.every, (row for row in costs.rows if row.word != "else")):
+            if isinstance(it, (tree.Cycle, tree.Transfer)):
+                sent[isinstance(it, tree.Transfer)].update(Command(*at, it.function) for at in _places(row))
+    return frozenset(sent[True] - sent[False])
+
+
+def _places(row: Row) -> Iterator[Tuple[int, int, int]]:
+    """The crates, stations and sub-addresses that a row names: of a scan all from its first register to its last."""
+    spans = [[range(low, high + 1) for low, high in it] for it in row.addresses()]
+    if len(spans) < 2:
+        for span in spans:
+            yield from itertools.product(*span)
+        return
+    begin, end = spans
+    order: List[Tuple[int, int]] = list(itertools.product(range(begin[1][0], end[1][-1] + 1), range(SUB_ADDRESSES)))
+    for crate in range(begin[0][0], end[0][-1] + 1):
+        yield from ((crate, *at) for at in order if (begin[1][0], begin[2][0]) <= at <= (end[1][-1], end[2][-1]))
 
 
 def is_event_file(file: File) -> bool:

@@ -38,9 +38,7 @@ def draw_bounds(services: Sequence[Service], run: "Optional[Run]" = None) -> Can
     return canvas
 
 
-def _draw_bar(
-    canvas: Canvas, y: float, place: Tuple[int, int], kind: str, bound: Tuple[int, int], seen: "Optional[Seen]"
-) -> None:
+def _draw_bar(canvas: Canvas, y: float, place: Tuple[int, int], kind: str, bound: Tuple[int, int], seen: "Optional[Seen]") -> None:
     """A bar: filled the checker's bound, dashed the number of the heading; below it the line of what was seen."""
     (x, wide), (most, annotated) = place, bound
     scale = wide / max(annotated, 1)

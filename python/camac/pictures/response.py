@@ -1,7 +1,7 @@
 """The picture of how late services can be: of each one what passes at most from its look-at-me to its end, and what a run showed."""
 from typing import TYPE_CHECKING, Dict, List, NamedTuple, Optional, Sequence, Tuple
 
-from camac.late import Late
+from camac.contradictions import Late
 from camac.pictures.costs import MARK, NARROWEST
 from camac.pictures.svg import NO_POINTER, SANS_11, Canvas, count, cut
 from camac.values import Response
