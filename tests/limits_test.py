@@ -4,11 +4,9 @@ response` prints at edges that are seldom made by chance, by hand. What the prog
 
 usage: tests/limits_test.py [-v] [TEST ..]     from any folder; takes some seconds
 """
-import pathlib
-import tempfile
 import unittest
 
-from support.program import PROGRAM, called
+from support.program import PROGRAM, Room, called, folder
 from oracle.calls import Program
 from oracle.reader.engines import Inputs, tell
 
@@ -32,9 +30,7 @@ def service(body, cycles=4_294_967_295, words=4_096):
 
 class Limits(unittest.TestCase):
     def setUp(self):
-        room = tempfile.TemporaryDirectory(prefix="camac-limits-")
-        self.addCleanup(room.cleanup)
-        self.program = Program(PROGRAM, pathlib.Path(room.name))
+        self.program = Program(PROGRAM, folder(self.addCleanup))
 
     def told(self, command, inputs):
         """What the reader and the program answer alike."""
@@ -240,7 +236,7 @@ def edge_script(services):
     return f"{lams}var v i k\n{''.join(edge_service(*it) for it in services.items())}".encode()
 
 
-class Calls(unittest.TestCase):
+class Calls(Room):
     def test_many(self):
         """15 procedures, each of which calls the one before it four times: its cycles are counted, and not listed."""
         cycles, steps, bodies = 3, 1, ["proc p0() within 3 cycles event 0 words steps 1 { cclc adc }"]
@@ -248,21 +244,19 @@ class Calls(unittest.TestCase):
             cycles, steps = 4 * cycles, 4 * (1 + steps)
             bodies.append(f"proc p{k}() within {cycles} cycles event 0 words steps {steps} {{ {f'call p{k - 1}() ' * 4}}}")
         script = "\n".join(["cdlam adc 1 1 5 12", *bodies, f"service adc within {cycles} cycles event 0 words {{ call p14() }}\n"])
-        with tempfile.TemporaryDirectory() as room:
-            (pathlib.Path(room) / "script").write_text(script)
-            status, out, _ = called("response", "@sample", f"{room}/script", timeout=5)
+        (self.room / "script").write_text(script)
+        status, out, _ = called("response", "@sample", self.room / "script", timeout=5)
         self.assertEqual((status, out.decode()), (0, f"service adc gl 3 cycles {cycles} once start 0 end {cycles} longest {cycles} clears 2\n"))
 
 
-class Edges(unittest.TestCase):
+class Edges(Room):
     def test_lines(self):
-        with tempfile.TemporaryDirectory(prefix="camac-response-") as room:
-            program = Program(PROGRAM, pathlib.Path(room))
-            for services, words, lines in EDGES:
-                with self.subTest(words=words):
-                    inputs = Inputs(EDGE_PLAN, edge_script(services), words=words.encode())
-                    for told in tell("response", inputs), program.call("response", inputs):
-                        self.assertEqual((told.status, told.out.decode(), told.err), (0, lines, b""))
+        program = Program(PROGRAM, self.room)
+        for services, words, lines in EDGES:
+            with self.subTest(words=words):
+                inputs = Inputs(EDGE_PLAN, edge_script(services), words=words.encode())
+                for told in tell("response", inputs), program.call("response", inputs):
+                    self.assertEqual((told.status, told.out.decode(), told.err), (0, lines, b""))
 
 
 if __name__ == "__main__":

@@ -229,7 +229,7 @@ class Package(unittest.TestCase):
         """A module is there as if it had been loaded, and no name of one hides a function."""
         self.assertEqual(self.run_python("import camac; print(camac.printed.read_plan.__name__)"), ["read_plan"])
         modules = {it.stem for it in (TOP / "python/camac").iterdir()} & set(camac.__all__)
-        loaded = self.run_python(f"import camac.call, camac.drive, camac; print(*(it for it in {sorted(modules)} if callable(getattr(camac, it))))")
+        loaded = self.run_python(f"import camac.drive, camac; print(*(it for it in {sorted(modules)} if callable(getattr(camac, it))))")
         self.assertEqual(loaded, sorted(modules))
         with self.assertRaises(AttributeError):
             camac.nothing
