@@ -169,7 +169,7 @@ class Ran:
 
     def __init__(self, answer, events, log):
         self.status, self.out, err = answer
-        # Of a refused answer there is more, which tests/mistakes_test.py tries.
+        # Of a refused answer there is more, which tests/changes_test.py tries.
         self.err = re.sub(rb"  \w+: column .*\n", b"", err)
         self.events, self.calls, self.turns, self.closes = events, [], [], []
         for turn, line in enumerate(log.splitlines(), 1):

@@ -12,14 +12,13 @@ import pathlib
 import re
 import shutil
 import sys
-import tempfile
 import time
 import unittest
 
 from support import launcher, of_c
 from support.launcher import call, copy, stand_in, start, toolchain
 from support.needs import has, needed
-from support.program import PROGRAM, TOP
+from support.program import PROGRAM, TOP, folder
 
 # What ./camac calls, and ./install besides.
 OF_LAUNCHER = "find sort xargs sha256sum stat mkdir mv rm".split()
@@ -27,22 +26,16 @@ OF_INSTALLER = "cat grep cmp cp chmod ln mktemp rmdir realpath python3".split()
 OF_ARCHIVES = {"--pack": "tar gzip".split(), "--deb": "dpkg-deb gzip strip md5sum sed date touch".split()}
 # Waits for a file of this name for 20 seconds at most.
 WAIT = "n=0; until [ -e {} ]; do sleep 0.1; n=$((n + 1)); [ $n -lt 200 ] || exit 3; done"
-ROOM = None
 COPY = None
 
 
 def setUpModule():
-    global ROOM, COPY
-    ROOM = tempfile.TemporaryDirectory(prefix="camac-install-")
-    COPY = pathlib.Path(ROOM.name) / "a copy"
+    global COPY
+    COPY = folder(unittest.addModuleCleanup) / "a copy"
     copy(COPY)
     keep("camac.{}", PROGRAM, "crates/*/src")
     if not of_c.lacking():
         keep("libcamac.{}.a", of_c.ARCHIVE, "crates/*/src tools/library_main.text")
-
-
-def tearDownModule():
-    ROOM.cleanup()
 
 
 def keep(name, file, texts):
@@ -279,7 +272,7 @@ class BlockOfC(Case):
 
     @classmethod
     def setUpClass(cls):
-        cls.home = pathlib.Path(ROOM.name) / "home"
+        cls.home = COPY.parent / "home"
         cls.bare = {"HOME": str(cls.home), "PATH": os.environ["PATH"]}
         cls.told = call(COPY / "install", env=cls.bare)[1]
         block = re.search(r"```console\n(\$ export PKG_CONFIG_PATH.*?)```", (TOP / "README.md").read_text(), re.S)[1]

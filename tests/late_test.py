@@ -16,7 +16,7 @@ import camac
 from support import two_crates
 from camac import Harm, Response, Unkept
 from camac import pictures
-from camac.late import Broken
+from camac.contradictions import Broken
 from camac.pictures.response import NO_NUMBER, pieces_of
 from camac.printed import read_responses
 from camac.report import report

@@ -16,31 +16,24 @@ import select
 import shutil
 import signal
 import subprocess
-import tempfile
 import threading
 import time
 import unittest
 
 from support.launcher import Case, call, copy, start, toolchain
 from support.needs import has
-from support.program import TOP
+from support.program import TOP, folder
 
 VERDICT = "accepted\nservice adc gl 3 cycles 6 of 6 words 1 of 1 steps 4\n"
 NOT_PROVED = "It is not proved; to prove it (about an hour) and keep that: cd crates/camac && rt run\n"
 NEEDED = "bash env readlink find sort stat xargs sha256sum mkdir mv rm cat".split()
-ROOM = None
 COPY = None
 
 
 def setUpModule():
-    global ROOM, COPY
-    ROOM = tempfile.TemporaryDirectory(prefix="camac-launcher-")
-    COPY = pathlib.Path(ROOM.name) / "a copy"
+    global COPY
+    COPY = folder(unittest.addModuleCleanup) / "a copy"
     copy(COPY)
-
-
-def tearDownModule():
-    ROOM.cleanup()
 
 
 class Terminal:
@@ -333,14 +326,14 @@ class Install(Case):
     @classmethod
     def archive(cls):
         """A stand-in for the archive of the library. Python does not take it for one that fits."""
-        folder = pathlib.Path(tempfile.mkdtemp(dir=ROOM.name))
+        place = folder(unittest.addModuleCleanup)
         exports = sorted(set(re.findall(r"camac_raw_\w+", (TOP / "library/camac.c").read_text())))
         text = "char *getenv(const char *);\n"
         text += "".join(f"unsigned {it}(void) {{ return getenv(\"STAND_IN\") ? 200 : 100; }}\n" for it in exports)
-        (folder / "it.c").write_text(text)
-        subprocess.run(["gcc", "-fPIC", "-c", "it.c"], cwd=folder, check=True)
-        subprocess.run(["ar", "rcs", "it.a", "it.o"], cwd=folder, check=True)
-        return folder / "it.a"
+        (place / "it.c").write_text(text)
+        subprocess.run(["gcc", "-fPIC", "-c", "it.c"], cwd=place, check=True)
+        subprocess.run(["ar", "rcs", "it.a", "it.o"], cwd=place, check=True)
+        return place / "it.a"
 
     @classmethod
     def setUpClass(cls):

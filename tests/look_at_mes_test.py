@@ -9,13 +9,11 @@ CAMAC_SEED is another seed than the one of the day, which is printed; CAMAC_RUNS
 import collections
 import datetime
 import os
-import pathlib
 import random
-import tempfile
 import unittest
 
-from support.program import PROGRAM
-from camac.late import Watch
+from support.program import PROGRAM, folder
+from camac.contradictions import Watch
 from camac.printed import read_responses
 from camac.values import Harm
 from oracle.calls import Program
@@ -287,9 +285,7 @@ class Judge:
 class Case(unittest.TestCase):
     def setUp(self):
         memory = "/dev/shm" if os.access("/dev/shm", os.W_OK) else None
-        room = tempfile.TemporaryDirectory(prefix="camac-look-at-mes-", dir=memory)
-        self.addCleanup(room.cleanup)
-        self.program = Program(PROGRAM, pathlib.Path(room.name))
+        self.program = Program(PROGRAM, folder(self.addCleanup, dir=memory))
 
     def call(self, command, plan, script, words="", answers=""):
         told = self.program.call(command, Inputs(plan.encode(), script.encode(), answers=answers.encode(), words=words.encode()))

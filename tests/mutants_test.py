@@ -7,11 +7,10 @@ import os
 import pathlib
 import subprocess
 import sys
-import tempfile
 import unittest
 from unittest import mock
 
-from support.program import TOP
+from support.program import TOP, folder
 from rounds import repository
 from rounds.bodies import bodies_of, packed, plants_of
 from rounds.prover import Round
@@ -102,10 +101,8 @@ REFUSED = [name for name, (said, *_) in MUTANTS.items() if said.startswith("refu
 class Tool(unittest.TestCase):
     @classmethod
     def setUpClass(cls):
-        room = tempfile.TemporaryDirectory(prefix="mutants-test-")
-        cls.addClassCleanup(room.cleanup)
-        cls.room = pathlib.Path(room.name)
-        for patch in (mock.patch.object(repository, "TOP", room.name), mock.patch.dict(os.environ, CAMAC_TOP=room.name, XDG_CACHE_HOME=f"{room.name}/cache")):
+        cls.room = folder(cls.addClassCleanup)
+        for patch in (mock.patch.object(repository, "TOP", str(cls.room)), mock.patch.dict(os.environ, CAMAC_TOP=str(cls.room), XDG_CACHE_HOME=f"{cls.room}/cache")):
             patch.start()
             cls.addClassCleanup(patch.stop)
         files = {"sample/src/lib.rt": SOURCE, "sample/proofs/sum/Answers.antt": SUM, "above/src/lib.rt": ABOVE}

@@ -34,7 +34,7 @@ from camac.pictures.spectra import LOGARITHMIC, Shown, draw_panel
 from camac.printed import read_plan, read_responses, read_services
 from camac.program import knows_option, output_of
 from camac.report import report
-from camac.runs import Asked, Inputs, Run
+from camac.runs import REASONS, Asked, Inputs, Run
 from camac.simulate import FACTORS, Simulated, Simulation
 from camac.texts import source_lines
 from camac.values import BodyKind
@@ -381,7 +381,7 @@ class Texts(laboratory.BenchCase):
             self.assertEqual(text.count("<script"), 1)
             self.assertEqual(text.count("<svg "), text.count("</svg>"))
             self.assertNotIn("<img", text)
-            self.assertIsNone(svg.FORBIDDEN.search(text))
+            self.assertIsNone(re.search(svg.FORBIDDEN, text))
             text.encode()
 
     def test_nothing_is_fetched(self):
@@ -504,7 +504,7 @@ def kept_pictures():
     }
     for name, shown in (("", run), ("small-", small_run())):
         for (why, gl), kept in shown.kept.items():
-            drawn[f"strip-{name}{why.name.lower()}-{gl}"] = pictures.draw_strip(kept, services[0] if gl != 5 else services[1], why.value)
+            drawn[f"strip-{name}{why}-{gl}"] = pictures.draw_strip(kept, services[0] if gl != 5 else services[1], REASONS[why])
     return {name: canvas.picture() for name, canvas in drawn.items()}
 
 

@@ -1,7 +1,8 @@
 #!/usr/bin/env python3
-"""Tests of python/camac: event files are read, and refused, as `camac events` reads and refuses them.
+"""Tests of python/camac: event files are read, and refused, as `camac events` reads and refuses them. And its types, as mypy judges them: the package
+itself without an error, and a program of a user by them.
 
-usage: tests/python_test.py [-v] [TEST ..]     from any folder; takes a few seconds
+usage: tests/python_test.py [-v] [TEST ..]     from any folder; takes some seconds
 """
 import io
 import itertools
@@ -20,7 +21,7 @@ try:
 except ImportError:
     numpy = None
 
-from support.live import TOP
+from support.live import TOP, Case
 from support.needs import needed
 from support.program import called
 from support.seconds import is_within
@@ -228,7 +229,7 @@ class Package(unittest.TestCase):
         """A module is there as if it had been loaded, and no name of one hides a function."""
         self.assertEqual(self.run_python("import camac; print(camac.printed.read_plan.__name__)"), ["read_plan"])
         modules = {it.stem for it in (TOP / "python/camac").iterdir()} & set(camac.__all__)
-        loaded = self.run_python(f"import camac.call, camac.drive, camac; print(*(it for it in {sorted(modules)} if callable(getattr(camac, it))))")
+        loaded = self.run_python(f"import camac.drive, camac; print(*(it for it in {sorted(modules)} if callable(getattr(camac, it))))")
         self.assertEqual(loaded, sorted(modules))
         with self.assertRaises(AttributeError):
             camac.nothing
@@ -238,6 +239,50 @@ class Package(unittest.TestCase):
         dear = {"ctypes", "dataclasses", "hashlib", "inspect", "json", "pathlib", "subprocess", "tempfile", "traceback", "camac.library", "camac.pictures"}
         for command in ("check", "csv", "diff", "fmt"):
             self.assertEqual(self.run_python(f"import camac.commands.{command}; print(*{dear} & set(sys.modules))"), [], command)
+
+
+TYPED = """\
+from typing import Optional
+
+import camac
+from camac.mock import Adc, MockBranch
+
+
+class Bench:
+    def demand(self) -> camac.Answer:
+        return camac.Answer(gl=4)
+
+    def cycle(self, c: int, n: int, a: int, f: int, data: Optional[int]) -> camac.Answer:
+        return camac.Answer(x=1, q=1)
+
+    def lock(self, c: int) -> camac.Answer:
+        return camac.Answer()
+
+    def unlock(self, c: int) -> None:
+        pass
+
+
+for service in camac.check("plan.toml", "a.script"):
+    print(service.name.upper(), service.cycles + 1)
+print(camac.drive("plan.toml", "a.script", Bench(), "events").how.value)
+print(camac.drive("plan.toml", "a.script", MockBranch({(1, 5): Adc()}, {(1, 5): 3}), "events").line)
+"""
+
+
+@needed("mypy")
+class Types(Case):
+    def judged(self, *files):
+        words = ["mypy", "--strict", "--no-error-summary", "--cache-dir", self.room / "cache", *files]
+        ran = subprocess.run(words, cwd=self.room, env={**os.environ, "MYPYPATH": str(TOP / "python")}, capture_output=True, text=True, timeout=300)
+        self.assertEqual(ran.stderr, "")
+        return ran.stdout
+
+    def test_package_and_program(self):
+        self.assertEqual(self.judged(TOP / "python/camac", self.write("good.py", TYPED)), "")
+        wrong = TYPED.replace("service.cycles + 1", "service.cycle").replace("-> camac.Answer", "-> str", 1).replace("return camac.Answer(gl=4)", 'return ""')
+        told = self.judged(self.write("wrong.py", wrong))
+        self.assertIn('"Service" has no attribute "cycle"', told)
+        self.assertIn("has incompatible type", told)
 
 
 if __name__ == "__main__":

@@ -6,13 +6,11 @@ usage: tests/refused_memory_test.py [-v] [TEST ..]     from any folder; takes so
 
 A small library in front of the C library's allocator answers null; it is compiled here by cc or clang.
 """
-import pathlib
 import subprocess
-import tempfile
 import unittest
 
 from support.needs import needed
-from support.program import PROGRAM, STRAIGHT_LINE, TOP
+from support.program import PROGRAM, STRAIGHT_LINE, TOP, folder
 
 SHIM = r"""
 #define _GNU_SOURCE
@@ -132,9 +130,7 @@ MEMORY = (3, b"", b"fault memory\n")
 class RefusedMemory(unittest.TestCase):
     @classmethod
     def setUpClass(cls):
-        room = tempfile.TemporaryDirectory(prefix="camac-memory-")
-        cls.addClassCleanup(room.cleanup)
-        cls.room = pathlib.Path(room.name)
+        cls.room = folder(cls.addClassCleanup)
         (cls.room / "refuse.c").write_text(SHIM)
         cls.library = str(cls.room / "refuse.so")
         subprocess.run(["cc", "-shared", "-fPIC", "-O1", "-o", cls.library, str(cls.room / "refuse.c"), "-ldl"], check=True)

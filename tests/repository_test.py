@@ -1,11 +1,14 @@
 #!/usr/bin/env python3
 """Compares the manual pages of section 5 and the JSON Schema of plans with the pages of docs/ and with plans. Tries the files for editors in the editors that
-are installed. Compares the files about the repository with one another, and looks for lemmas that nothing cites.
+are installed, and the kinds of modules in examples/modules: each file is taken as a plan, all types are in one plan, docs/PLANS.md has them as they are,
+and the benches in examples/benches have no others. Compares the files about the repository with one another, and looks for lemmas that nothing cites.
+Tests what the gate and tests/run say in their last lines, over tools and tests that are stand-ins; and that each test that is left out says why.
 
-usage: tests/repository_test.py [-v] [TEST ..]     from any folder; takes a few seconds
+usage: tests/repository_test.py [-v] [TEST ..]     from any folder; takes some seconds
 """
 import collections
 import json
+import os
 import re
 import shutil
 import subprocess
@@ -14,7 +17,7 @@ import unittest
 
 from support import plans
 from support.needs import has, needed, skip
-from support.program import TOP, Room, keywords
+from support.program import TOP, Room, called, keywords, ran
 from support.rows import ROWS, SAMPLE
 
 SCHEMA = json.loads((TOP / "editors/plan.schema.json").read_text())
@@ -280,6 +283,172 @@ class Editors(Room):
         self.expect_indented()
         self.assertIn("(camac-mode #  camac-check plan.toml 0.script)", ran.stdout, ran.stderr)
         self.assertTrue(ran.stdout.endswith("(a.script 4 3)(a.script 5 nil)"), ran.stdout + ran.stderr)
+
+
+# A test that passes and one that fails, with what they leave out.
+TESTS = {
+    "good": "print('.skipped: mypy')\nprint('skipped: mypy')\nprint('skipped: a disk')",
+    "other": "import os\nprint('skipped: mypy')\nopen('path', 'w').write(os.environ['PATH'])",
+    "bad": "print('it is wrong')\nraise SystemExit(1)",
+    "whole": "print('judged: 7 cases')\nprint('nothing else')",
+}
+
+
+class Lines(Room):
+    """A copy of the gate and of tests/run, where all that they call is a stand-in."""
+
+    def setUp(self):
+        super().setUp()
+        for name in (".ci/run", "tests/run", "tests/support/needs.py"):
+            (self.room / name).parent.mkdir(parents=True, exist_ok=True)
+            shutil.copy(TOP / name, self.room / name)
+        self.stand_in("bin/rt", "echo 5 passed, 0 failed")
+        self.stand_in("bin/rattle", "true")
+        self.stand_in("tools/mutants", "echo 7 refused, 0 not")
+        self.stand_in("tools/proved_library", "true")
+        self.stand_in("crates/camac/out/camac", "true")
+        self.stand_in(".ci/install", "touch installed")
+
+    def stand_in(self, name, line):
+        file = self.room / name
+        file.parent.mkdir(parents=True, exist_ok=True)
+        file.write_text(f"#!/bin/sh\n{line}\n")
+        file.chmod(0o755)
+
+    def lines(self, command, *names, **environment):
+        """The lines of a command, with these tests, and its status."""
+        for it in names:
+            (self.room / f"tests/{it}_test.py").write_text(TESTS[it])
+        path = f"{self.room / 'bin'}:{os.environ['PATH']}"
+        status, out, _ = ran(command, cwd=self.room, env={**os.environ, "CI": "", "PATH": path, **environment})
+        return status, out.decode().splitlines()
+
+    def last_lines(self, *words, **environment):
+        status, lines = self.lines(*words, **environment)
+        return status, lines[-2:]
+
+    def test_nothing_left_out(self):
+        status, (before, last) = self.last_lines(["tests/run", "--proved"], "whole")
+        self.assertEqual((status, before.partition(" took")[0], last), (0, "the tests", "1 passed, 0 failed"))
+        status, (before, last) = self.last_lines([".ci/run"])
+        self.assertEqual((status, before.partition(" took")[0], last), (0, "the gate", "14 passed, 0 failed"))
+
+    def test_what_was_judged(self):
+        """Of a test that passes only that is shown."""
+        _, (_, *judged, _, _) = self.lines(["tests/run", "--proved"], "whole")
+        self.assertEqual(judged, ["judged: 7 cases"])
+
+    def test_left_out(self):
+        lacking = "skipped: a disk (good), mypy (good, other)"
+        self.assertEqual(self.last_lines(["tests/run", "--proved"], "good", "other", "bad"), (1, [lacking, "2 passed, 1 failed, 3 skipped"]))
+        self.assertEqual(self.last_lines([".ci/run"]), (1, [lacking, "15 passed, 1 failed, 3 skipped"]))
+        (self.room / "tests/bad_test.py").unlink()
+        self.assertEqual(self.last_lines([".ci/run"]), (0, [lacking, "15 passed, 0 failed, 3 skipped"]))
+
+    @needed("root", is_here=not os.getuid())
+    def test_in_ci(self):
+        self.last_lines([".ci/run"], "other")
+        self.assertFalse((self.room / "installed").exists())
+        self.assertEqual(self.last_lines([".ci/run"], CI="true")[1][1], "14 passed, 0 failed, 1 skipped")
+        self.assertTrue((self.room / "installed").exists())
+        self.assertEqual((self.room / "path").read_text().partition(":")[0], "/usr/bin")
+
+
+class Needs(unittest.TestCase):
+    def test_one_way_to_leave_out(self):
+        """A test is left out by tests/support/needs.py alone, which says what is not here."""
+        found = [it.name for it in (TOP / "tests").rglob("*.py") if re.search(r"\b(?:skip(?:Test|If|Unless)|SkipTest)\(", it.read_text())]
+        self.assertEqual(found, ["needs.py"])
+
+
+FILES = sorted((TOP / "examples/modules").glob("*.toml"))
+PLANS_PAGE = (TOP / "docs/PLANS.md").read_text()
+# The functions that EUR 4100 reserves, and those of a LAM: test, clear, disable, enable.
+RESERVED, LAM = {5, 7, 13, 15, 29, 31}, (8, 10, 24, 26)
+ROW = re.compile(r"^\| \[(\w+)\]\(\.\./examples/modules/\1\.toml\) \|(?:[^|\n]*\|){2} ([\d, ]+) \| ([^|\n]+) \|$", re.M)
+
+
+class Kind:
+    """What a file says of its type."""
+
+    def __init__(self, path):
+        self.label, self.text = path.stem, path.read_text()
+        self.type, _, self.crate = self.text.partition("[[crate]]\n")
+        self.name = re.search(r'^name = "(.*)"$', self.type, re.M)[1]
+        self.about = " ".join(re.findall(r"^# (.*)$", self.text, re.M))
+        self.commands = [dict(re.findall(r"(\w+) = (\w+)", it)) for it in re.findall(r"\{ (f = [^}]*) \}", self.type)]
+        self.functions = {int(it["f"]) for it in self.commands}
+        self.has_lam = 8 in self.functions
+
+    def widths(self):
+        moving = [it for it in self.commands if "probe" not in it and int(it["f"]) // 8 in (0, 2)]
+        return {int(it.get("width", 24)) for it in moving}
+
+    def places(self, function):
+        """The sub-addresses of a function."""
+        ranges = [it for it in self.commands if int(it["f"]) == function]
+        return {a for it in ranges for a in range(int(it["a"]), int(it.get("to", it["a"])) + 1)}
+
+
+KINDS = [Kind(it) for it in FILES]
+
+
+def numbers(cell):
+    return {int(it) for it in cell.split(", ")}
+
+
+class Modules(unittest.TestCase):
+    def lines(self, *words, given=""):
+        """What the program lists, where it takes the plan."""
+        status, out, err = called("plan", *words, "--commands", given=given.encode())
+        self.assertEqual((status, err), (0, b""), out)
+        return out.decode().splitlines()
+
+    def test_each_file(self):
+        self.assertGreaterEqual(len(KINDS), 19)
+        for path, kind in zip(FILES, KINDS):
+            with self.subTest(file=kind.label):
+                listed = self.lines(path)
+                self.assertEqual([it.split()[1] for it in listed if it.startswith("type ")], [kind.name])
+                self.assertEqual(listed[-1], f"station 5 {kind.name} gl {'1' if kind.has_lam else '-'}")
+                self.assertFalse(kind.functions & RESERVED)
+                self.assertIn("Compare with the manual of your module.", kind.about)
+
+    def test_lam(self):
+        for kind in KINDS:
+            with self.subTest(file=kind.label):
+                self.assertNotEqual(kind.has_lam, "It has no LAM" in kind.about)
+                if kind.has_lam:
+                    self.assertRegex(kind.about, rf"LAM at sub-address(es)? {min(kind.places(8))}\b")
+                    for function in LAM:
+                        self.assertLessEqual(kind.places(8), kind.places(function))
+
+    def test_page(self):
+        rows = {name: cells for name, *cells in ROW.findall(PLANS_PAGE)}
+        self.assertEqual(sorted(rows), [it.label for it in KINDS])
+        for kind in KINDS:
+            with self.subTest(file=kind.label):
+                widths, lam = rows[kind.label]
+                self.assertEqual(numbers(widths), kind.widths())
+                self.assertNotEqual(kind.has_lam, lam == "none")
+
+    def test_all_in_one_plan(self):
+        plan = "".join(it.type for it in KINDS)
+        for crate, some in (1, KINDS[:23]), (2, KINDS[23:]):
+            plan += f"[[crate]]\nnumber = {crate}\n"
+            plan += "".join(f'[[crate.station]]\nn = {n}\ntype = "{it.name}"\n' for n, it in enumerate(some, 1))
+        listed = self.lines("@in", given=plan)
+        self.assertEqual([it.split()[1] for it in listed if it.startswith("type ")], [it.name for it in KINDS])
+        self.assertEqual(sum(it.startswith("station ") for it in listed), len(KINDS))
+
+    def test_benches(self):
+        known = {it.type[it.type.index("[[type]]") :].strip() for it in KINDS}
+        plans = sorted((TOP / "examples/benches").glob("*/plan.toml"))
+        self.assertEqual(len(plans), 3)
+        for plan in plans:
+            types = re.findall(r"^\[\[type\]\]\n.*?^\]$", plan.read_text(), re.M | re.S)
+            self.assertEqual([it for it in types if it not in known], [], plan)
+            self.assertGreaterEqual(len(types), 5)
 
 
 if __name__ == "__main__":

@@ -23,7 +23,7 @@ from camac.printed import read_headings, read_plan, read_services
 from camac.program import knows_command, lines_of, version
 from camac.arrays import groups
 from camac.commands.csv import write_listing
-from camac.transfers import transfer_commands
+from camac.runs import transfer_commands
 from camac.values import BodyKind, Command, Cost, Declaration, Station
 
 COMMANDS = """\

@@ -35,9 +35,8 @@ from camac.export import Given
 from camac.follow import Counts, Follower
 from camac.printed import read_services
 from camac.record import Recording
-from camac.run_list import RunList
 from camac.runs import Asked
-from camac.watch import Server, Watch
+from camac.watch import RunList, Server, Watch
 
 SERVICES = read_services(two_crates.VERDICT)
 

@@ -25,7 +25,7 @@ import camac
 from camac.__main__ import main
 from camac.events import NEW_FILE, record
 from camac.export import Given
-from camac.regions import measure
+from camac.pictures.regions import measure
 from camac.watch import Watch
 from camac.word_file import parse_words
 

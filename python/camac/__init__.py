@@ -12,7 +12,6 @@ they may take, serves editors (`camac.lsp`), draws pictures, makes a report of a
 Python 3.8 or newer, and its standard library alone; numpy and h5py make arrays of events, if they are there."""
 import importlib
 import os
-import re
 import sys
 import types
 from typing import Any, Callable, Dict, List, Tuple
@@ -30,8 +29,8 @@ def lazily(package: str, file: str) -> Tuple[Dict[str, str], Callable[[str], Any
     """The module of each name of a package, its `__getattr__` and its `__dir__`. The names are in __init__.pyi, as tools that look at types want them.
     Each module is loaded when a name of it is first asked for: all of them take four times as long as a judgement."""
     with open(os.path.join(os.path.dirname(file), "__init__.pyi"), encoding="utf-8") as stub:
-        found = re.findall(r"^from (camac\.\S+) import (.+)$", stub.read(), re.M)
-    homes, loaded = {name: home for home, names in found for name in names.split(", ")}, vars(sys.modules[package])
+        rows = [line[len("from ") :].rstrip().split(" import ") for line in stub if line.startswith("from camac.")]
+    homes, loaded = {name: home for home, names in rows for name in names.split(", ")}, vars(sys.modules[package])
 
     def find(name: str) -> Any:
         if name in homes:

@@ -1,6 +1,5 @@
 from camac.archive import Runs, open_runs
 from camac.arrays import EventArrays, event_arrays
-from camac.call import call
 from camac.drive import Answer, Branch, DriveFault, ProgramFault, ProtocolFault, Refused, TimeFault, UsageFault
 from camac.drive import drive, find_program
 from camac.drivers import driver
@@ -10,7 +9,7 @@ from camac.loops.proposals import Proposal, Proposals
 from camac.loops.search import propose
 from camac.printed import parse_listing
 from camac.record import Record, Recording, read_record
-from camac.subcommands import bounds, check, costs, plan, response, run
+from camac.subcommands import bounds, call, check, costs, plan, response, run
 from camac.surveys import Survey, survey
 from camac.values import Body, Command, Contradiction, Cost, Crate, Cycle, Declaration, Demand, Ending, Harm, Heading, Lock, ModuleType, Move, Plan, Response, Row, RunEnd, Service, Station, Unkept, Unlock
 from camac.warn import Warned, warnings

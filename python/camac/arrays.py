@@ -147,23 +147,28 @@ def whole_records(numpy: Any, data: Any, number: int) -> Optional[Tuple[EventArr
     number of four bytes begins with the marker: no word does. None if there is none, or that is not the whole truth: the file is wrong, or
     another number looks like a marker."""
     head = TWO.head.size // 4
-    numbers = numpy.frombuffer(data, ">u4", count=len(data) // 4).astype("u4")
+    numbers = numpy.frombuffer(data, ">u4", count=len(data) // 4)
     step = head + int(numbers[3] & 0xFFFF) if len(numbers) >= head else head
     alike = numbers[: len(numbers) // step * step].reshape(-1, step)
-    rest = numbers[alike.size :]
-    is_alike = (alike[:, 0] >> 16 == MARKER).all() and (alike[:, 3] & 0xFFFF == step - head).all() and (len(rest) < head or rest[3] & 0xFFFF == step - head)
-    starts = numpy.arange(0, alike.size, step) if is_alike else numpy.flatnonzero(numbers >> 16 == MARKER)
-    starts = starts[starts + head <= len(numbers)]
-    heads = alike[:, :head] if is_alike else numbers[starts[:, None] + numpy.arange(head)]
-    ends = starts + head + (heads[:, 3] & 0xFFFF)
+    # A row for each number of a head: what is done with it reads one after another.
+    heads, rest = alike[:, :head].T.astype("u4", "C"), numbers[alike.size :]
+    is_alike = (heads[0] >> 16 == MARKER).all() and (heads[3] & 0xFFFF == step - head).all() and (len(rest) < head or rest[3] & 0xFFFF == step - head)
+    if is_alike:
+        starts = numpy.arange(0, alike.size, step)
+    else:
+        numbers = numbers.astype("u4")
+        starts = numpy.flatnonzero(numbers >> 16 == MARKER)
+        starts = starts[starts + head <= len(numbers)]
+        heads = numbers[starts + numpy.arange(head)[:, None]]
+    ends = starts + head + (heads[3] & 0xFFFF)
     # The rest of the last record may not be read yet.
     kept = slice(None) if is_alike else ends <= len(numbers)
-    starts, heads, ends = starts[kept], heads[kept], ends[kept]
+    starts, heads, ends = starts[kept], heads[:, kept], ends[kept]
     if not len(starts):
         return None
-    gl, cycles, missed, counts = heads[:, 0] & 0xFFFF, heads[:, 2].copy(), heads[:, 3] >> 16, heads[:, 3] & 0xFFFF
+    gl, cycles, missed, counts = heads[0] & 0xFFFF, heads[2], heads[3] >> 16, heads[3] & 0xFFFF
     if is_alike:
-        words = alike[:, head:].ravel()
+        words = alike[:, head:].astype("u4").ravel()
     else:
         is_word = numpy.ones(ends[-1], bool)
         is_word[starts[:, None] + numpy.arange(head)] = False
@@ -172,7 +177,7 @@ def whole_records(numpy: Any, data: Any, number: int) -> Optional[Tuple[EventArr
         starts[0] == 0
         and (ends[:-1] == starts[1:]).all()
         and ((gl >= 1) & (gl <= GREATEST_GL) & (missed <= cycles) & (counts <= GREATEST_COUNT)).all()
-        and (heads[:, 1] == numpy.arange(number, number + len(starts))).all()
+        and (heads[1] == numpy.arange(number, number + len(starts))).all()
         and words.max(initial=0) <= GREATEST_WORD
     )
     if not is_good:

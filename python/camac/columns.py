@@ -1,7 +1,7 @@
 """A run with the columns of its words: those of the user's file, else those of its script; beside its record, and with another run laid over it."""
 import os
 import re
-from typing import List, Mapping, NamedTuple, Optional, Sequence, Tuple
+from typing import TYPE_CHECKING, List, Mapping, NamedTuple, Optional, Sequence, Tuple
 
 import camac
 from camac.drive import File, UsageFault
@@ -9,7 +9,10 @@ from camac.events import GREATEST_GL, GREATEST_WORD
 from camac.fits import Check
 from camac.runs import Asked, Channels, Cut, Inputs, Over, Run, collect, is_event_file
 from camac.values import Plan, Response, Service
-from camac.words import Column, Words
+
+if TYPE_CHECKING:
+    from camac.record import Record
+    from camac.words import Column, Words
 
 
 class Naming(NamedTuple):
@@ -24,14 +27,15 @@ class Naming(NamedTuple):
     bins: Optional[int] = None
 
 
-def asked_of(naming: Naming, names: Words) -> Asked:
-    """What is asked of words. Raises UsageFault if a name is none of a column."""
+def asked_of(naming: Naming, names: "Optional[Words]") -> Asked:
+    """What is asked of words, which have names if something is. Raises UsageFault if a name is none of a column."""
     gates, regions = (tuple(Cut(_column(names, it[0]), *it[1:]) for it in cuts) for cuts in (naming.gates, naming.regions))
     pair = (_column(names, naming.pair[0]), _column(names, naming.pair[1])) if naming.pair else None
     return Asked(names, pair, naming.bins, gates, regions)
 
 
-def _column(names: Words, name: str) -> Column:
+def _column(names: "Optional[Words]", name: str) -> "Column":
+    assert names
     for it in names.find(name):
         return it
     columns = [it.name for gl in range(1, GREATEST_GL + 1) for it in names.columns(gl)]
@@ -55,20 +59,18 @@ def gather(
     of a script are used for an event file alone, and for what is asked. Raises as `collect`, UsageFault if a name is none of a column, and
     WordsFault."""
     is_named = naming and (naming._replace(bins=None) != Naming() or is_event_file(inputs.source))
-    names = camac.words_of_script(plan, inputs.script, services) if is_named else Words()
+    names = camac.words_of_script(plan, inputs.script, services) if is_named else None
     if naming and naming.file is not None:
-        names = camac.read_words(naming.file, services, names)
+        names = camac.read_words(naming.file, services, *([names] if names else []))
     asked = asked_of(naming or Naming(), names)
     run = collect(inputs, plan, services, program, responses, asked)
-    if not run.has_listing or (naming and naming.over is not None):
-        from camac.record import beside
-    record = None if run.has_listing else beside(inputs.source)
+    record = None if run.has_listing else _beside(inputs.source)
     run.contradictions = record.contradictions if record else run.contradictions
     run.checks += _compare_record(inputs)
     if naming and naming.over is not None:
         others = inputs._replace(source=naming.over)
         other = collect(others, plan, services, program, (), Asked(asked.names, gates=asked.gates))
-        live = [found.demands if found else None for found in map(beside, (inputs.source, naming.over))]
+        live = [found.demands if found else None for found in map(_beside, (inputs.source, naming.over))]
         run.over = lay_over(naming.over, other.channels, live, *({gl: it.cycles.count for gl, it in one.seen.items()} for one in (run, other)))
         run.checks += [it._replace(text=f"{run.over.name}: {it.text}") for it in (*other.checks, *_compare_record(others))]
     return run
@@ -82,9 +84,18 @@ def lay_over(file: File, channels: Channels, live: Sequence[Optional[float]], of
     return Over(name, channels, {gl: of[gl] / count for gl, count in over.items() if count and gl in of}, "for as many events")
 
 
+def _beside(file: File) -> "Optional[Record]":
+    """The record beside a file. What reads one is loaded where there may be one."""
+    if not os.path.exists(f"{os.path.splitext(os.fsdecode(file))[0]}.json"):
+        return None
+    from camac.record import beside
+
+    return beside(file)
+
+
 def _compare_record(inputs: Inputs) -> List[Check]:
     """Whether plan and script are those of the record that is beside an event file."""
-    if not is_event_file(inputs.source):
+    if not is_event_file(inputs.source) or _beside(inputs.source) is None:
         return []
     from camac.record import record_checks, texts_of
 

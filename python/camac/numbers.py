@@ -1,5 +1,4 @@
 """What is done with many numbers at once, in lists or in arrays of numpy: all that differs between them."""
-import heapq
 import importlib
 import itertools
 import operator
@@ -92,12 +91,16 @@ def each(numbers: Numbers, low: int, mask: int) -> Numbers:
 
 def greatest(most: int, numbers: Numbers, others: Numbers) -> List[int]:
     """Where the greatest numbers are, in order, of those alike by their other number, then the first ones: so many at most."""
+    if len(numbers) <= most:
+        return [*range(len(numbers))]
     both = whole(numbers), whole(others)
     if not is_array(both[0]):
+        import heapq
+
         return sorted(k for _, _, k in heapq.nsmallest(most, zip(map(operator.neg, numbers), map(operator.neg, others), itertools.count())))
     numpy = importlib.import_module("numpy")
     keys = both[0].astype("u8") << 32 | both[1]
-    least = numpy.partition(keys, -most)[-most] if len(keys) > most else 0
+    least = numpy.partition(keys, -most)[-most]
     found = (keys > least).nonzero()[0].tolist()
     return sorted(found + (keys == least).nonzero()[0][: most - len(found)].tolist())
 

@@ -33,17 +33,17 @@ def proof(program: Optional[File] = None) -> Proof:
 def _proof(file: str) -> Proof:
     import hashlib
 
-    with open(file, "rb") as opened:
-        digest = hashlib.sha256(opened.read()).hexdigest()
-    folder = os.path.dirname(file)
+    folder, noted = os.path.dirname(file), {}
     # A library is in lib, or one deeper.
-    for top in (os.path.dirname(folder), os.path.dirname(os.path.dirname(folder))):
+    for top in (os.path.dirname(os.path.dirname(folder)), os.path.dirname(folder)):
         note = _read(os.path.join(top, NOTE))
-        for line in (note.get("program", ""), note.get("library", "")):
-            its_digest, _, word = line.partition(" ")
-            if its_digest == digest and word in (PROVED, NOT_PROVED):
-                return Proof(file, word, note.get("sources", "-"), note.get("kit", "-"))
-    return Proof(file, NOT_KNOWN)
+        for line in (note.get("library", ""), note.get("program", "")):
+            digest, _, word = line.partition(" ")
+            if word in (PROVED, NOT_PROVED):
+                noted[digest] = Proof(file, word, note.get("sources", "-"), note.get("kit", "-"))
+    with open(file, "rb") as opened:
+        # The sum of a program takes long: it is made where there is another to compare it with.
+        return noted.get(hashlib.sha256(opened.read()).hexdigest() if noted else "", Proof(file, NOT_KNOWN))
 
 
 def _read(note: str) -> Dict[str, str]:

@@ -1,24 +1,25 @@
 """What a run did, in numbers of a fixed size: from the listing of `camac run` and its event file, or from an event file alone."""
-import enum
+import itertools
 from array import array
-from typing import Dict, FrozenSet, Iterable, Iterator, List, NamedTuple, Optional, Sequence, Tuple, Union
+from typing import TYPE_CHECKING, Dict, FrozenSet, Iterable, Iterator, List, NamedTuple, Optional, Sequence, Set, Tuple, Union
 
 from camac.arrays import BATCH, EventArrays, Events, Group, batches, event_pieces, groups
-from camac.contradictions import NO_X, Contradictions
+from camac.contradictions import NO_X, Contradictions, Late
 from camac.drive import File
 from camac.events import EventFileFault, read_events
 from camac.fits import Check, Fit
 from camac.functions import CONTROLLERS
 from camac.histograms import Pairs, Series, Spectrum
+from camac.language import TRANSFERS
 from camac.numbers import Numbers, chosen, ends, join, kinds, met, order, scaled, total, whole, within
-from camac.late import Late
 from camac.output import Progress
 from camac.program import knows_command
 from camac.subcommands import costs, run
 from camac.texts import script_text
-from camac.transfers import transfer_commands
-from camac.values import Command, Contradiction, Cycle, Demand, Ending, Item, Lock, Move, Plan, Response, RunEnd, Service, Unlock
-from camac.words import COUNTER, SPECTRUM, Column, Words
+from camac.values import Body, Command, Contradiction, Cycle, Demand, Ending, Item, Lock, Move, Plan, Response, Row, RunEnd, Service, Unlock
+
+if TYPE_CHECKING:
+    from camac.words import Column, Words
 
 Operation = Union[Cycle, Lock, Unlock]
 # The operations that are kept of a service that is shown cycle by cycle.
@@ -26,6 +27,11 @@ KEPT_OPERATIONS = 150
 GREATEST_MISSED = 65_535
 # The bins of the words at a place: enough for a map.
 PLACE_BINS = 128
+# Why a service is shown cycle by cycle, and how that is said.
+MISSED, UNFINISHED, LONGEST = "missed", "unfinished", "longest"
+REASONS = {MISSED: "first X = 0", UNFINISHED: "it did not come to its end", LONGEST: "the longest of its kind"}
+# The sub-addresses of a station.
+SUB_ADDRESSES = 16
 # What a word of all its bits holds at most.
 FULL_WORD = (1 << 24) - 1
 
@@ -36,25 +42,6 @@ class Inputs(NamedTuple):
     plan: File
     script: File
     source: File
-
-
-class Why(enum.Enum):
-    """Why a service is shown cycle by cycle."""
-
-    MISSED = "first X = 0"
-    UNFINISHED = "it did not come to its end"
-    LONGEST = "the longest of its kind"
-
-
-class Kept(NamedTuple):
-    """A service that is shown cycle by cycle: its number in the run, its graded-L bit, its dataway cycles, its first operations, and how
-    many more there are."""
-
-    number: int
-    gl: int
-    cycles: int
-    operations: List[Operation]
-    more: int
 
 
 class Seen(NamedTuple):
@@ -108,30 +95,14 @@ class Sent:
         self.recent, self.numbers = [], []
 
 
-class Asked(NamedTuple):
-    """What is asked of the words of events: the columns that they have, two of these that are wanted against each other, the most bins, gates that an event
-    has to pass, and regions that are measured."""
-
-    names: Words = Words()
-    pair: Optional[Tuple[Column, Column]] = None
-    bins: Optional[int] = None
-    gates: Tuple["Cut", ...] = ()
-    regions: Tuple["Cut", ...] = ()
-
-    def gated(self) -> str:
-        """Of which events the words are, as the end of a title."""
-        cuts = " and ".join(f"{it.column.name} from {it.low:,} to {it.last:,}" for it in self.gates)
-        return cuts and f", of events with {cuts}"
-
-
 class Cut(NamedTuple):
     """The numbers of a column from the first to the last one."""
 
-    column: Column
+    column: "Column"
     low: int
     last: int
 
-    def select(self, names: Words, of: Sequence[Group]) -> List[Group]:
+    def select(self, names: "Words", of: Sequence[Group]) -> List[Group]:
         """The events that have such a number."""
         gathered = [it for it in names.numbers(of, {self.column.field}) if it.column == self.column]
         passed = join([within(it.numbers, self.low, self.last, it.events) for it in gathered]) if gathered else []
@@ -142,12 +113,30 @@ class Cut(NamedTuple):
         return [it for it in found if len(it.numbers)]
 
 
+class Asked(NamedTuple):
+    """What is asked of the words of events: the columns that they have, two of these that are wanted against each other, the most bins, gates that an event
+    has to pass, and regions that are measured."""
+
+    names: "Optional[Words]" = None
+    pair: "Optional[Tuple[Column, Column]]" = None
+    bins: Optional[int] = None
+    gates: Tuple[Cut, ...] = ()
+    regions: Tuple[Cut, ...] = ()
+
+    def gated(self) -> str:
+        """Of which events the words are, as the end of a title."""
+        cuts = " and ".join(f"{it.column.name} from {it.low:,} to {it.last:,}" for it in self.gates)
+        return cuts and f", of events with {cuts}"
+
+
 class Channel:
     """The numbers of a column in the events of a run: a spectrum, and of what is shown over the run its line."""
 
     __slots__ = ("column", "spectrum", "series")
 
-    def __init__(self, column: Column) -> None:
+    def __init__(self, column: "Column") -> None:
+        from camac.words import COUNTER, SPECTRUM
+
         self.column = column
         self.spectrum = Spectrum(None if column.greatest == FULL_WORD else column.greatest + 1)
         kind = column.field.kind
@@ -159,7 +148,7 @@ class Channel:
             self.series.add_all(*order(events, numbers))
 
 
-class Channels(Dict[Column, Channel]):
+class Channels(Dict["Column", Channel]):
     """The channels of a run, by their columns. `regions` have the numbers of each region, from its first one on, `pairs` those of two columns that are in
     one event."""
 
@@ -173,6 +162,8 @@ class Channels(Dict[Column, Channel]):
     def take(self, of: Sequence[Group]) -> None:
         """Takes the words of the events that pass the gates; of a pair, of each event that has both columns, the first number of both."""
         names, pair = self.asked.names, self.asked.pair or ()
+        if names is None:
+            return
         for gate in self.asked.gates:
             of = gate.select(names, of)
         sides: Dict[Column, Tuple[Numbers, Numbers]] = {}
@@ -191,7 +182,8 @@ class Channels(Dict[Column, Channel]):
 
     def listed(self, bits: Iterable[int]) -> List[Channel]:
         """Those that have a number, in the order of the columns of these bits."""
-        return [self[it] for gl in sorted(bits) for it in self.asked.names.columns(gl) if it in self]
+        names = self.asked.names
+        return [self[it] for gl in sorted(bits) for it in names.columns(gl) if it in self] if names else []
 
 
 class Over(NamedTuple):
@@ -203,18 +195,15 @@ class Over(NamedTuple):
     why: str
 
 
-class InProgress:
-    """A service whose operations are being read."""
+class Served:
+    """A service whose operations are read: what is counted of it, its number in the run if it is kept, its first operations, and how many more there are."""
 
-    __slots__ = ("gl", "cycles", "waits", "no_q", "of_transfers", "no_x", "locked", "locks", "operations", "count")
+    __slots__ = ("gl", "number", "cycles", "waits", "no_q", "of_transfers", "no_x", "locked", "locks", "operations", "more")
 
     def __init__(self, gl: int) -> None:
         self.gl = gl
-        self.cycles = self.waits = self.no_q = self.of_transfers = self.no_x = self.locked = self.locks = self.count = 0
+        self.number = self.cycles = self.waits = self.no_q = self.of_transfers = self.no_x = self.locked = self.locks = self.more = 0
         self.operations: List[Operation] = []
-
-    def kept(self, number: int) -> Kept:
-        return Kept(number, self.gl, self.cycles, self.operations, self.count - len(self.operations))
 
 
 class Run:
@@ -227,7 +216,7 @@ class Run:
     version one. `end` is the end of a run, `fault` the fault of an event file. `kept` are services to be shown cycle by cycle.
     `by_place` has the words by the bit and by their place in the event, `channels` those of a column, `over` those of another run, `seen` what was seen of
     the services of each bit, and `late` how late they ended, where a listing and `camac response` show that. `contradictions` are those of the plan; None
-    of an event file, which has no address, and words that are cut."""
+    of an event file, which has no address, and words that are cut. `bodies` are those of the script, where its answers are played."""
 
     def __init__(self, has_listing: bool, asked: Optional[Asked] = None) -> None:
         self.has_listing, self.has_cycles = has_listing, True
@@ -237,7 +226,7 @@ class Run:
         self.end: Optional[RunEnd] = None
         self.fault: Optional[EventFileFault] = None
         self.commands: Dict[Command, Sent] = {}
-        self.kept: Dict[Tuple[Why, int], Kept] = {}
+        self.kept: Dict[Tuple[str, int], Served] = {}
         self.by_place: Dict[Tuple[int, int], Spectrum] = {}
         self.asked = asked or Asked()
         self.channels = Channels(self.asked)
@@ -245,6 +234,7 @@ class Run:
         self.seen: Dict[int, SeenOfBit] = {}
         self.late: Dict[int, Late] = {}
         self.contradictions: Optional[Tuple[Contradiction, ...]] = None
+        self.bodies: List[Body] = []
         self.checks: List[Check] = []
 
     def last_line(self) -> str:
@@ -286,6 +276,35 @@ class Run:
         return self.channels.listed(kinds(whole(self.gl)))
 
 
+def transfer_commands(bodies: Sequence[Body], script: bytes) -> FrozenSet[Command]:
+    """The commands that only transfers of an accepted script send: a Q = 0 of such a command ends a scan or a block, or has it sent again, as is meant.
+    `bodies` are what `camac.costs` gives."""
+    if not any(row.word in TRANSFERS for body in bodies for row in body.rows):
+        return frozenset()
+    from camac import tree
+    from camac.reader import read_script
+
+    sent: Dict[bool, Set[Command]] = {True: set(), False: set()}
+    for body, costs in zip(read_script(script).bodies, bodies):
+        for it, row in zip(body.every, (row for row in costs.rows if row.word != "else")):
+            if isinstance(it, (tree.Cycle, tree.Transfer)):
+                sent[isinstance(it, tree.Transfer)].update(Command(*at, it.function) for at in _places(row))
+    return frozenset(sent[True] - sent[False])
+
+
+def _places(row: Row) -> Iterator[Tuple[int, int, int]]:
+    """The crates, stations and sub-addresses that a row names: of a scan all from its first register to its last."""
+    spans = [[range(low, high + 1) for low, high in it] for it in row.addresses()]
+    if len(spans) < 2:
+        for span in spans:
+            yield from itertools.product(*span)
+        return
+    begin, end = spans
+    order: List[Tuple[int, int]] = list(itertools.product(range(begin[1][0], end[1][-1] + 1), range(SUB_ADDRESSES)))
+    for crate in range(begin[0][0], end[0][-1] + 1):
+        yield from ((crate, *at) for at in order if (begin[1][0], begin[2][0]) <= at <= (end[1][-1], end[2][-1]))
+
+
 def is_event_file(file: File) -> bool:
     """Whether a file begins as an event file does. Raises OSError if it cannot be read."""
     with open(file, "rb") as opened:
@@ -305,11 +324,12 @@ def collect(
         import tempfile
 
         with tempfile.NamedTemporaryFile(suffix=".events") as events, open(inputs.source, "rb") as answers:
-            meant = transfer_commands(costs(inputs.plan, inputs.script, program), script_text(inputs.script)) if knows_command("costs", program) else frozenset()
+            bodies = costs(inputs.plan, inputs.script, program) if knows_command("costs", program) else []
+            meant = transfer_commands(bodies, script_text(inputs.script))
             collector = _Collector(plan, {it.name: it.gl for it in services}, Contradictions(responses), meant, asked)
             collector.take(run(*inputs, events.name, program=program), answers)
             made = _compare(collector, events.name, services)
-            made.contradictions = collector.seen.found(plan)
+            made.bodies, made.contradictions = bodies, collector.seen.found(plan)
             if responses:
                 late = made.late = collector.seen.watch.seen()
                 kept = sum(it.count for it in late.values())
@@ -341,10 +361,10 @@ class _Collector:
         self.plan, self.bits, self.seen, self.meant = plan, bits, seen, meant
         self.run = Run(True, asked)
         self.longest: Dict[int, int] = {}
-        self.open: Optional[InProgress] = None
+        self.open: Optional[Served] = None
 
     def take(self, items: Iterable[Item], answers: Iterable[bytes]) -> None:
-        service = InProgress(0)
+        service = Served(0)
         commands = self.run.commands
         lines = iter(answers)
         for item in items:
@@ -363,16 +383,17 @@ class _Collector:
             elif isinstance(item, Demand):
                 self.close()
                 self.seen.take(item, line)
-                service = InProgress(self.bits.get(item.service or "", 0))
+                service = Served(self.bits.get(item.service or "", 0))
                 self.open = service if item.service else None
                 self.run.idle += item.service is None
                 continue
             else:
                 self.run.end = item
                 continue
-            service.count += 1
-            if service.count <= KEPT_OPERATIONS:
+            if len(service.operations) < KEPT_OPERATIONS:
                 service.operations.append(item)
+            else:
+                service.more += 1
 
     def close(self) -> None:
         """The service in progress came to its end."""
@@ -383,13 +404,14 @@ class _Collector:
         self.seen.cycles = service.cycles
         for name in ("gl", "cycles", "waits", "no_q", "of_transfers", "no_x", "locked"):
             getattr(run, name).append(getattr(service, name))
+        service.number = len(run.gl)
         if service.cycles > self.longest.get(service.gl, -1):
             self.longest[service.gl] = service.cycles
-            run.kept[Why.LONGEST, service.gl] = service.kept(len(run.gl))
-        if service.no_x and (Why.MISSED, 0) not in run.kept:
-            run.kept[Why.MISSED, 0] = service.kept(len(run.gl))
+            run.kept[LONGEST, service.gl] = service
+        if service.no_x:
+            run.kept.setdefault((MISSED, 0), service)
 
-    def take_cycle(self, service: InProgress, sent: Sent, item: Cycle) -> None:
+    def take_cycle(self, service: Served, sent: Sent, item: Cycle) -> None:
         command, move, word, x, q, wait = item
         service.cycles += 1 + wait
         sent.count += 1
@@ -435,7 +457,8 @@ def _compare(collector: _Collector, path: File, services: List[Service]) -> Run:
     for sent in run.commands.values():
         sent.settle()
     if collector.open:
-        run.kept[Why.UNFINISHED, 0] = collector.open.kept(len(run.gl) + 1)
+        collector.open.number = len(run.gl) + 1
+        run.kept[UNFINISHED, 0] = collector.open
     said = run.end.events if run.end else None
     total = len(run.gl)
     last = f"; the last line says {said:,}" if said is not None else ""

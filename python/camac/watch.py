@@ -1,5 +1,6 @@
 """A page that follows an event file while a run goes on. The server of the standard library gives it, to this computer alone: it writes nothing,
 and answers GET and HEAD of its own addresses."""
+import functools
 import http.server
 import json
 import os
@@ -19,13 +20,12 @@ from camac.pictures.spectra import BOTH, View, channel_groups, draw_panel, of_ch
 from camac.pictures.svg import Canvas, escape, share, ticks
 from camac.printed import read_responses
 from camac.program import knows_command
-from camac.record import beside, read_record
+from camac.record import Record, beside, read_record
 from camac.report.page import Column, Row, figure, header, page, panels, region_table, table
-from camac.run_list import RunList, stamp
 from camac.runs import Asked, Channel, Channels, Cut, Over
 from camac.subcommands import response
 from camac.values import Contradiction, Response
-from camac.watch_page import FORM, LOST, MORE, NOTES, SCRIPT, STYLE
+from camac.watch_page import FORM, LOST, MORE, NOTES, SCRIPT, STYLE, list_page
 
 HOST = "127.0.0.1"
 # The seconds between two looks at the file.
@@ -38,6 +38,72 @@ WIDE, MOST_BINS, MOST_REGION = 640, 588, 512
 MINUTES = 600
 # The parts of the page below its head, each with its title.
 PARTS = {"services": "Services", "rate": "Rate", "channels": "Event words by their names", "cycles": "Cycles and words of an event", "last": "The last events"}
+# A record that says that its run goes on is told again within seconds; after so many the run may have crashed.
+PATIENCE = 60
+
+
+def stamp(file: Optional[File]) -> Optional[Tuple[int, ...]]:
+    """What changes where a file is written anew; None where none is there."""
+    try:
+        status = os.stat(file or "")
+    except FileNotFoundError:
+        return None
+    return status.st_ino, status.st_mtime_ns, status.st_size
+
+
+@functools.lru_cache(4096)
+def _read(path: str, _at: Optional[Tuple[int, ...]]) -> Optional[Record]:
+    """A record, read again if it was written; None if it is none."""
+    try:
+        return read_record(path)
+    except (OSError, ValueError):
+        return None
+
+
+class RunList:
+    """The runs of a folder. `make` makes what follows one of them."""
+
+    def __init__(self, folder: str, words: Optional[File], make: Callable[[Given], Any]) -> None:
+        self.folder, self.words, self.make = folder, words, make
+        self.opened: Dict[str, Any] = {}
+        self.lock, self.stop = threading.Lock(), threading.Event()
+
+    def records(self) -> Dict[str, Record]:
+        """The records by the names of their files, the last one first."""
+        paths = ((it, os.path.join(self.folder, it)) for it in sorted(os.listdir(self.folder)) if it.endswith(".json"))
+        found = {name: record for name, record in ((name, _read(path, stamp(path))) for name, path in paths) if record}
+        return dict(sorted(found.items(), key=lambda it: it[1].begin or it[1].told or "", reverse=True))
+
+    def follow(self, stop: threading.Event) -> None:
+        self.stop = stop
+        stop.wait()
+
+    def open(self, name: str) -> Any:
+        """What follows a run; None if there is none of this name."""
+        record = self.records().get(name)
+        if record is None or record.events is None:
+            return None
+        with self.lock:
+            if name not in self.opened:
+                events, path = (os.path.join(self.folder, it) for it in (os.path.basename(record.events), name))
+                opened = self.opened[name] = self.make(Given(events, words=self.words, record=path))
+                threading.Thread(target=opened.follow, args=(self.stop,), daemon=True).start()
+            return self.opened[name]
+
+    def parts(self, _look: object) -> Dict[str, str]:
+        return {"runs": "".join(f"<li>{self.row(*it)}</li>" for it in self.records().items()) or "There is no record of a run in this folder."}
+
+    def row(self, name: str, record: Record) -> str:
+        """A run in a line: its page, its state, its number and title."""
+        link = f'<a href="{urllib.parse.quote(os.fsencode(name), safe="")}/">{escape(name)}</a>' if record.events else escape(name)
+        age = time.time() - (stamp(os.path.join(self.folder, name)) or (0, 0))[1] / 1e9
+        state, is_good = (record.line, record.how == "ended") if record.line is not None else ("goes on", True) if age < PATIENCE else (f"not told for {age / 60:,.0f} min", False)
+        texts = [f"run {record.number}" if record.number is not None else "", record.title, f"begun {record.begin[:19]}Z" if record.begin else ""]
+        texts += [f"live {share(record.demands or 0, record.seconds())}"] if record.seconds() > 0 else []
+        return f'{link}: <b class="{"good" if is_good else "bad"}">{escape(state)}</b>, {escape(", ".join(filter(None, texts)))}'
+
+    def page(self) -> str:
+        return list_page(os.path.basename(os.path.abspath(self.folder)))
 
 
 class Look(NamedTuple):

@@ -1,11 +1,9 @@
 """Shared by tests of ./camac and ./install: a copy of the repository, a call of any command, a folder for each test, stand-ins for commands."""
-import pathlib
 import shutil
 import subprocess
-import tempfile
 import unittest
 
-from support.program import TOP
+from support.program import TOP, folder
 
 TAKEN = ("camac", "install", "crates.txt", "crates.sum", "crates", "tools", "man", "completions", "editors", "include", "library", "python", "examples", "docs", "tests", "CHANGELOG.md", "README.md", "LICENSE")
 
@@ -44,6 +42,4 @@ def toolchain(folder, line):
 
 class Case(unittest.TestCase):
     def folder(self):
-        made = tempfile.TemporaryDirectory(prefix="camac-launcher-")
-        self.addCleanup(made.cleanup)
-        return pathlib.Path(made.name)
+        return folder(self.addCleanup)

@@ -7,10 +7,9 @@ import os
 import pathlib
 import shutil
 import subprocess
-import tempfile
 
 from support import needs
-from support.program import TOP
+from support.program import TOP, folder
 
 ARCHIVE = pathlib.Path(os.environ.get("CAMAC_ARCHIVE") or TOP / "crates/camac_c/out/libcamac_c.a").absolute()
 NAME = "the library for C"
@@ -42,16 +41,14 @@ def needed():
 @functools.lru_cache(maxsize=None)
 def prefix():
     """A folder in which headers, library and the files for pkg-config and CMake are as ./install puts them."""
-    room = tempfile.TemporaryDirectory(prefix="camac-library-")
-    atexit.register(room.cleanup)
-    folder = pathlib.Path(room.name)
-    subprocess.run([TOP / "tools/library", ARCHIVE, folder / "lib"], check=True)
-    shutil.copytree(TOP / "include", folder / "include")
+    room = folder(atexit.register)
+    subprocess.run([TOP / "tools/library", ARCHIVE, room / "lib"], check=True)
+    shutil.copytree(TOP / "include", room / "include")
     for place, names in (("pkgconfig", ("camac.pc",)), ("cmake/camac", ("camac-config.cmake", "camac-config-version.cmake"))):
-        (folder / "lib" / place).mkdir(parents=True)
+        (room / "lib" / place).mkdir(parents=True)
         for name in names:
-            shutil.copy(TOP / "library" / name, folder / "lib" / place)
-    return folder
+            shutil.copy(TOP / "library" / name, room / "lib" / place)
+    return room
 
 
 def environment():

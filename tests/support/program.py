@@ -67,20 +67,23 @@ def run_tests():
     unittest.main()
 
 
+def folder(at_end, **how):
+    """A new folder. What removes it is handed to `at_end`."""
+    made = tempfile.TemporaryDirectory(prefix="camac-test-", **how)
+    at_end(made.cleanup)
+    return pathlib.Path(made.name)
+
+
 class Room(unittest.TestCase):
     """A test in a folder of its own."""
 
     def setUp(self):
-        room = tempfile.TemporaryDirectory(prefix="camac-test-")
-        self.addCleanup(room.cleanup)
-        self.room = pathlib.Path(room.name)
+        self.room = folder(self.addCleanup)
 
     @classmethod
     def shared(cls):
         """A folder for all tests of the class."""
-        room = tempfile.TemporaryDirectory(prefix="camac-test-")
-        cls.addClassCleanup(room.cleanup)
-        return pathlib.Path(room.name)
+        return folder(cls.addClassCleanup)
 
     def write(self, name, text):
         (self.room / name).write_text(text)

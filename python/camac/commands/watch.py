@@ -35,8 +35,7 @@ def add_to(commands: Any) -> None:
 def do(args: argparse.Namespace) -> int:
     # The server of the standard library is long to import, and no other command needs it.
     from camac.follow import read_alarm
-    from camac.run_list import RunList
-    from camac.watch import Server, Watch
+    from camac.watch import RunList, Server, Watch
 
     if not 0 <= args.port <= 65_535:
         args.parser.error(f"--port is 0 to 65,535, not {args.port}")

@@ -5,8 +5,7 @@ from typing import Any, Callable, Dict, FrozenSet, Iterator, List, NamedTuple, S
 from camac import functions
 from camac.drive import Refused
 from camac.language import DECLARATIONS, EACH, OF_FUNCTIONS, STATEMENTS, WORDS, Kind
-from camac.lsp.hover import declared_at, function_text
-from camac.lsp.known import addresses
+from camac.lsp.hover import addresses, declared_at, function_text
 from camac.lsp.workspace import Judged
 from camac.printed import NOT_DECLARED, is_refused, read_expected
 from camac.tokens import tokens_of

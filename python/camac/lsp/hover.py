@@ -1,18 +1,22 @@
-"""The hover text of the place under the pointer, in Markdown."""
+"""The hover text of the place under the pointer, in Markdown; and what is known there: the statement, its row of `camac costs`, the range of a variable, and
+what a register may address."""
+import bisect
+import itertools
 import re
 from typing import Iterator, List, Optional, Tuple
 
 from camac import functions
 from camac.language import OF_FUNCTIONS, Kind
-from camac.lsp.known import addresses, range_at, row_of, statement_tokens
+from camac.layout import begins
 from camac.lsp.workspace import Choice, Judged
 from camac.names import Mention
-from camac.printed import costs_in, line_of_body
-from camac.tokens import Token
-from camac.values import Address, BodyKind, Cost, Declaration, ModuleType, Plan, Row, range_text
+from camac.printed import costs_in, line_of_body, read_known, row_at
+from camac.tokens import Token, tokens_of
+from camac.values import Address, BodyKind, Cost, Declaration, ModuleType, Plan, Range, Row, range_of, range_text
 
 GREATEST = 4_294_967_295
-
+# The lines around a place in which the statement is looked for, and the cycles of a register that are shown.
+AROUND = 8
 
 def hover(judged: Judged, place: int, choice: Choice) -> Optional[Tuple[str, int, int]]:
     """The hover text of a place in bytes, and its part of the document; None if there is none."""
@@ -114,14 +118,9 @@ def address_text(plan: Plan, address: Address) -> str:
 
 def types_at(plan: Plan, address: Address) -> List[ModuleType]:
     """The types of the modules at an address."""
-    found = [
-        plan.types[it.type]
-        for crate in plan.crates
-        if address.crate[0] <= crate.number <= address.crate[1]
-        for it in crate.stations
-        if address.station[0] <= it.number <= address.station[1]
-    ]
-    return list({it.name: it for it in found}.values())
+    (first, last), (low, high) = address.crate, address.station
+    names = [it.type for crate in plan.crates if first <= crate.number <= last for it in crate.stations if low <= it.number <= high]
+    return [plan.types[it] for it in dict.fromkeys(names)]
 
 
 def declared_at(plan: Plan, address: Address) -> List[Declaration]:
@@ -148,3 +147,56 @@ def function_text(it: Declaration) -> str:
         return "a probe, without a register"
     data = f"{it.width or 24} bits" if functions.reads(it.function) or functions.writes(it.function) else "moves no data"
     return f"{data}, clears the look-at-me" if it.clears else data
+
+
+def statement_tokens(judged: Judged, place: int) -> List[Token]:
+    """The tokens of the statement at a place, without what is in its block; nothing if there is none."""
+    block = judged.names.block_at(place)
+    if block is None or place <= block.brace:
+        return []
+    data, begin, end = judged.text.data, place, place
+    for _ in range(AROUND):
+        begin = max(block.brace + 1, data.rfind(b"\n", block.brace, begin))
+        end = data.find(b"\n", end + 1, block.end)
+        end = block.end if end < 0 else end
+    tokens = [it._replace(start=it.start + begin, end=it.end + begin) for it in tokens_of(data[begin:end])]
+    firsts = [at for at, is_first in enumerate(begins([it.text for it in tokens])) if is_first]
+    number = bisect.bisect_right([tokens[at].start for at in firsts], place) - 1
+    if number < 0 or tokens[firsts[number]].text in "{}":
+        return []
+    found = tokens[firsts[number] : firsts[number + 1] if number + 1 < len(firsts) else len(tokens)]
+    return found if place <= found[-1].end else []
+
+
+def row_of(judged: Judged, first: Token) -> Optional[Row]:
+    """The row of `costs` of a statement, given by its first token; None if the script is refused."""
+    verdict = judged.ask("tell")
+    return row_at(verdict.text, *judged.text.line_and_column(first.start)) if verdict.accepted else None
+
+
+def range_at(judged: Judged, mention: Mention) -> Optional[Range]:
+    """The range of a variable before the statement that names it, as the checker knows it; None where it does not come to the statement."""
+    tokens = statement_tokens(judged, mention.start)
+    if not tokens:
+        return None
+    at = judged.text.line_and_column(tokens[0].start)
+    verdict = judged.once(("known", at), lambda: judged.judge.ask("explain", judged.text.data, at))
+    words = read_known(verdict.text).get(mention.symbol.name, []) if verdict.accepted else []
+    return range_of(words[0]) if len(words) == 1 else None
+
+
+def addresses(judged: Judged, mention: Mention) -> List[Tuple[int, Address]]:
+    """What a register may address, by lines: where the statement that names it makes cycles, there; else in the cycles of its body."""
+    here = statement_tokens(judged, mention.start)
+    rows = [row_of(judged, here[0])] if here and here[0].text != "cdreg" else []
+    if not rows:
+        used = itertools.islice((it for it in judged.names.of(mention.symbol) if not it.declares), AROUND)
+        rows = [row_of(judged, tokens[0]) for tokens in (statement_tokens(judged, it.start) for it in used) if tokens]
+    found = [(row.line, address) for row in rows if row for address in row.addresses()]
+    # Else what is in numbers after `cdreg` of the register.
+    for it in judged.names.of(mention.symbol) if not found else ():
+        words = [token.text for token in statement_tokens(judged, it.start)] if it.declares else []
+        if len(words) == 6 and all(word.isdigit() for word in words[2:]):
+            crate, station, sub = map(int, words[3:])
+            found.append((judged.text.line_at(it.start), Address((crate, crate), (station, station), (sub, sub))))
+    return found

@@ -11,7 +11,7 @@ if TYPE_CHECKING:
 CYCLES, WORDS = (160, 210), (580, 150)
 
 
-def draw_bounds(services: Sequence[Service], run: Optional["Run"] = None) -> Canvas:
+def draw_bounds(services: Sequence[Service], run: "Optional[Run]" = None) -> Canvas:
     """Draws a row for each service: a bar of cycles and a bar of words, and below them what was seen in a run."""
     canvas = Canvas("The bounds of the script: at most, of annotated")
     canvas.text(CYCLES[0], 14, "cycles: at most, of annotated", "mute s11")
@@ -38,9 +38,7 @@ def draw_bounds(services: Sequence[Service], run: Optional["Run"] = None) -> Can
     return canvas
 
 
-def _draw_bar(
-    canvas: Canvas, y: float, place: Tuple[int, int], kind: str, bound: Tuple[int, int], seen: Optional["Seen"]
-) -> None:
+def _draw_bar(canvas: Canvas, y: float, place: Tuple[int, int], kind: str, bound: Tuple[int, int], seen: "Optional[Seen]") -> None:
     """A bar: filled the checker's bound, dashed the number of the heading; below it the line of what was seen."""
     (x, wide), (most, annotated) = place, bound
     scale = wide / max(annotated, 1)

@@ -37,7 +37,7 @@ class Scale(NamedTuple):
     is_cut: bool
 
 
-def draw_costs(body: Body, source: Sequence[str], seen: Optional["Seen"] = None, bodies: Sequence[Body] = (), has_calls: bool = True) -> Canvas:
+def draw_costs(body: Body, source: Sequence[str], seen: "Optional[Seen]" = None, bodies: Sequence[Body] = (), has_calls: bool = True) -> Canvas:
     """Draws the cost of a service or procedure. `source` are the lines of the script; `seen` are the cycles of the services of a run; `bodies`
     are all of the script, so that calls can be opened. Where it `has_calls` the lines of what is called follow those of the body."""
     name = f"{body.kind.value} {body.name}"

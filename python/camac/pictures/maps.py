@@ -1,13 +1,12 @@
 """Maps: two columns of event words against each other, and the words of a service by their place in the event. The fuller the colour, the more."""
 import math
-from typing import Dict, List, NamedTuple, Sequence, Tuple
+from typing import Dict, NamedTuple, Sequence, Tuple
 
 from camac.histograms import Pairs, Spectrum
 from camac.pictures.spectra import short
 from camac.pictures.svg import BOLD_12, LEVELS, WIDTH, Canvas, count, cut, level_of, ticks
 from camac.runs import Channels, Run
 from camac.values import Service
-from camac.words import Column
 
 LEFT, TOP = 84, 30
 # The side of a map of pairs, and that of one with more cells, each of whole pixels.
@@ -29,22 +28,9 @@ def draw_pairs(channels: Channels) -> Canvas:
     canvas.rect((LEFT, TOP, side, side), "face")
     peak, ways = max(pairs.cells.values()), []
     for cell, entries in sorted(pairs.cells.items()):
-        (x, right), (high, low) = (_edges(at, side / (end >> shift), up) for at, end, shift, up in zip(cell, ends, pairs.shifts, (0, side)))
-        ways.append((level_of(entries, peak), f"M{x} {high}H{right}V{low}H{x}z"))
+        (left, right), (high, low) = (_edges(at, side / (end >> shift), up) for at, end, shift, up in zip(cell, ends, pairs.shifts, (0, side)))
+        ways.append((level_of(entries, peak), f"M{left} {high}H{right}V{low}H{left}z"))
     canvas.shades(ways, "ours")
-    _draw_axes_of_pairs(canvas, across, up, ends, side)
-    _draw_scale(canvas, LEFT + side + 40, pairs, peak)
-    canvas.grow(TOP + side + 40)
-    return canvas
-
-
-def _edges(at: int, each: float, up: int) -> Tuple[int, int]:
-    """The edges of a cell, whose size is given: from the left, or, if a height is given, from above."""
-    low, high = round(each * at), round(each * (at + 1))
-    return (TOP + up - high, TOP + up - low) if up else (LEFT + low, LEFT + high)
-
-
-def _draw_axes_of_pairs(canvas: Canvas, across: Column, up: Column, ends: List[int], side: int) -> None:
     for quarter in range(5):
         x, y = LEFT + side * quarter / 4, TOP + side * (4 - quarter) / 4
         canvas.text(x, TOP + side + 14, short(across.value(ends[0] * quarter // 4)), "mute s10 m")
@@ -54,6 +40,15 @@ def _draw_axes_of_pairs(canvas: Canvas, across: Column, up: Column, ends: List[i
     names = [f"{it.name} [{it.unit}]" if it.unit else it.name for it in (across, up)]
     canvas.text(LEFT + side, TOP + side + 30, cut(names[0], 60), "s11 r")
     canvas.upright(24, TOP + side, cut(names[1], 55), "s11")
+    _draw_scale(canvas, LEFT + side + 40, pairs, peak)
+    canvas.grow(TOP + side + 40)
+    return canvas
+
+
+def _edges(at: int, each: float, up: int) -> Tuple[int, int]:
+    """The edges of a cell, whose size is given: from the left, or, if a height is given, from above."""
+    low, high = round(each * at), round(each * (at + 1))
+    return (TOP + up - high, TOP + up - low) if up else (LEFT + low, LEFT + high)
 
 
 def _draw_scale(canvas: Canvas, x: int, pairs: Pairs, peak: int) -> None:

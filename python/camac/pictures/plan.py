@@ -28,7 +28,7 @@ class Scene(NamedTuple):
     cycles: Optional[Dict[Tuple[int, int], int]]
 
 
-def draw_plan(plan: Plan, services: Optional[Sequence[Service]] = None, run: Optional["Run"] = None) -> Canvas:
+def draw_plan(plan: Plan, services: Optional[Sequence[Service]] = None, run: "Optional[Run]" = None) -> Canvas:
     """Draws a row for each crate, and below it a line for each graded-L bit."""
     canvas = Canvas("The plan: crates, stations, module types, graded-L bits and waits")
     cycles: Optional[Dict[Tuple[int, int], int]] = None

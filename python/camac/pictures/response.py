@@ -1,7 +1,7 @@
 """The picture of how late services can be: of each one what passes at most from its look-at-me to its end, and what a run showed."""
 from typing import TYPE_CHECKING, Dict, List, NamedTuple, Optional, Sequence, Tuple
 
-from camac.late import Late
+from camac.contradictions import Late
 from camac.pictures.costs import MARK, NARROWEST
 from camac.pictures.svg import NO_POINTER, SANS_11, Canvas, count, cut
 from camac.values import Response
@@ -25,7 +25,7 @@ class Piece(NamedTuple):
     tip: str
 
 
-def draw_response(responses: Sequence[Response], run: Optional["Run"] = None) -> Canvas:
+def draw_response(responses: Sequence[Response], run: "Optional[Run]" = None) -> Canvas:
     """Draws a bar for each service; `responses` are those of all services of a script, in the order of bits."""
     canvas = Canvas("How late each service can be, from its look-at-me to its end")
     canvas.text(LEFT, 14, "cycles from a look-at-me to the end of its service, at most", "mute s11")

@@ -3,7 +3,7 @@ from typing import Dict, Optional, Sequence, Tuple
 
 from camac.functions import CONTROLLERS, reads, writes
 from camac.pictures.svg import NO_POINTER, WIDTH, Canvas, count, number
-from camac.runs import Kept, Operation
+from camac.runs import Operation, Served
 from camac.values import Cycle, Lock, Service, Unlock
 
 CELL, WAIT = 17, 6
@@ -22,7 +22,7 @@ def kind_of(cycle: Cycle) -> str:
     return "read" if reads(function) else "write" if writes(function) else "control"
 
 
-def draw_strip(kept: Kept, service: Optional[Service], why: str, has_legend: bool = True) -> Canvas:
+def draw_strip(kept: Served, service: Optional[Service], why: str, has_legend: bool = True) -> Canvas:
     """Draws the cells of a service, row below row; `why` says why this service is shown."""
     canvas = Canvas(f"Service {kept.number:,} cycle by cycle")
     name = service.name if service else f"GL {kept.gl}"

@@ -20,14 +20,16 @@ LEVELS = (0.12, 0.25, 0.4, 0.58, 0.78, 1.0)
 MONO_11, SANS_11, BOLD_12 = 6.7, 6.8, 8.2
 NO_POINTER = ' style="pointer-events:none"'
 # What no XML may hold, what moves the cursor of a terminal, and halves of characters.
-FORBIDDEN = re.compile("[\x00-\x08\x0b\x0c\x0e-\x1f\x7f-\x9f\ud800-\udfff\ufffe\uffff]")
+FORBIDDEN = "[\x00-\x08\x0b\x0c\x0e-\x1f\x7f-\x9f\ud800-\udfff\ufffe\uffff]"
 ENTITIES = str.maketrans({"&": "&amp;", "<": "&lt;", ">": "&gt;", '"': "&quot;"})
 Box = Tuple[float, float, float, float]
 
 
 def clean(text: object) -> str:
     """The text as an XML file may hold it: a comment of a script, or the name of a file, may hold any byte. A tab is two spaces."""
-    return FORBIDDEN.sub("\ufffd", str(text)).replace("\t", "  ")
+    plain = str(text)
+    # The expression takes long to compile, and few texts need it.
+    return plain if plain.replace("\n", "").isprintable() else re.sub(FORBIDDEN, "\ufffd", plain).replace("\t", "  ")
 
 
 def escape(text: object) -> str:

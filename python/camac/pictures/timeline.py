@@ -97,9 +97,7 @@ def _gather(run: Run, axis: Axis) -> Dict[int, Dict[int, Column]]:
     return gathered
 
 
-def _draw_panel(
-    canvas: Canvas, y: float, service: Service, columns: Dict[int, Column], panels: int, of: Tuple[Run, Axis]
-) -> float:
+def _draw_panel(canvas: Canvas, y: float, service: Service, columns: Dict[int, Column], panels: int, of: Tuple[Run, Axis]) -> float:
     """Draws a panel, and returns where the next one begins."""
     run, axis = of
     most = max((it.most for it in columns.values()), default=0)

@@ -46,14 +46,14 @@ def report(
         run = gather(inputs, plan, services, program, responses or (), naming)
     except Refused as refusal:
         return Report(_refused_page(inputs, str(refusal), program), 1)
-    bodies = costs(inputs.plan, inputs.script, program) if knows_command("costs", program) else None
+    bodies = run.bodies or (costs(inputs.plan, inputs.script, program) if knows_command("costs", program) else None)
     if bodies is not None:
         run.checks.append(_shares_check(bodies))
     if survey is not None:
         from camac.surveys.summary import read_summary
 
-        found, sha256 = read_summary(survey), hashlib.sha256(plan_text(inputs.plan)).hexdigest()
-        run.checks.append(Check(f"crates and plan: {'; '.join([found.line(sha256), *found.differences])}", found.is_good(sha256)))
+        found, digest = read_summary(survey), hashlib.sha256(plan_text(inputs.plan)).hexdigest()
+        run.checks.append(Check(f"crates and plan: {'; '.join([found.line(digest), *found.differences])}", found.is_good(digest)))
     facts = sections.Facts(inputs, told(program), plan, services, source_lines(inputs.script), bodies, responses, run)
     text = page(f"{sections.base_name(inputs.script)}: report", sections.head(facts), [it(facts) for it in sections.PARTS])
     return Report(text, 0 if run.agrees() and run.is_good() else 1)

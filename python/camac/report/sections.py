@@ -17,7 +17,7 @@ from camac.pictures.strips import draw_strip
 from camac.pictures.svg import count, escape, share
 from camac.pictures.timeline import draw_run
 from camac.report.page import KEYS, Cell, Column, Row, figure, folded, header, panels, region_table, table
-from camac.runs import Inputs, Kept, Run, Why
+from camac.runs import LONGEST, REASONS, UNFINISHED, Inputs, Run, Served
 
 SECTIONS = {
     "bounds": "Bounds", "late": "How late", "cost": "Cost by line", "plan": "Plan", "run": "Run", "histograms": "Histograms", "services": "Services",
@@ -192,7 +192,7 @@ def run_section(facts: Facts) -> str:
         out += ["<h3>Some services cycle by cycle</h3>", *_strips(facts)]
     if facts.run.commands:
         out.append("<h3>Commands that were sent</h3>")
-        if (Why.UNFINISHED, 0) in facts.run.kept:
+        if (UNFINISHED, 0) in facts.run.kept:
             out.append('<p class="mute">Those of the service that did not come to its end are counted here, and nowhere else.</p>')
         out.append(_commands_table(facts))
     return "".join(out)
@@ -228,13 +228,13 @@ def _strips(facts: Facts) -> List[str]:
     """The services that are shown cycle by cycle, each once: what missed X or did not end first, then those nearest to their bounds."""
     reasons: Dict[int, List[str]] = {}
     for (why, _), kept in facts.run.kept.items():
-        reasons.setdefault(kept.number, []).append(why.value)
+        reasons.setdefault(kept.number, []).append(REASONS[why])
 
-    def order(pair: Tuple[Tuple[Why, int], Kept]) -> Tuple[bool, float, int]:
+    def order(pair: Tuple[Tuple[str, int], Served]) -> Tuple[bool, float, int]:
         service = facts.service(pair[1].gl)
-        return pair[0][0] is Why.LONGEST, -pair[1].cycles / max(service.cycles if service else 1, 1), pair[1].number
+        return pair[0][0] == LONGEST, -pair[1].cycles / max(service.cycles if service else 1, 1), pair[1].number
 
-    chosen: Dict[int, Kept] = {}
+    chosen: Dict[int, Served] = {}
     for _, kept in sorted(facts.run.kept.items(), key=order):
         if len(chosen) < MOST_STRIPS:
             chosen.setdefault(kept.number, kept)

@@ -184,18 +184,15 @@ def _plan_of(crate: Crate, sent: Sequence[Reach]) -> str:
     return "".join(lines) + f"[[crate]]\nnumber = {crate.number}\nwaits = {crate.waits}\nstation = [\n{''.join(stations)}]\n"
 
 
-def _rows(plan: Plan, answers: Sequence[Tuple[Command, Answer]]) -> Iterator[Row]:
-    row: Optional[Row] = None
+def _rows(plan: Plan, answers: Sequence[Tuple[Command, Answer]]) -> List[Row]:
+    rows: List[Row] = []
     for command, answer in sorted(answers, key=lambda it: (it[0].crate, it[0].station, it[0].function, it[0].sub_address)):
-        following = _row(plan, command, answer)
-        if row and following._replace(first=row.first, last=row.last, bits=row.bits) == row and following.first == row.last + 1:
-            row = row._replace(last=following.last, bits=max(row.bits, following.bits))
-            continue
-        if row:
-            yield row
-        row = following
-    if row:
-        yield row
+        row, last = _row(plan, command, answer), rows[-1] if rows else None
+        if last and row._replace(first=last.first, last=last.last, bits=last.bits) == last and row.first == last.last + 1:
+            rows[-1] = last._replace(last=row.last, bits=max(last.bits, row.bits))
+        else:
+            rows.append(row)
+    return rows
 
 
 def _row(plan: Plan, command: Command, answer: Answer) -> Row:

@@ -4,11 +4,10 @@ import tempfile
 import time
 from typing import Iterable, List, NamedTuple, Optional, Tuple
 
-from camac.call import call
 from camac.drive import Answer, Branch, File, ProgramFault, add_note
 from camac.functions import reads
 from camac.mock import Operation, Recorder
-from camac.subcommands import plan as read_plan
+from camac.subcommands import call, plan as read_plan
 from camac.values import Command, Ending, Plan
 
 # The name of the look-at-me that calls the one service of a script.
