@@ -45,6 +45,7 @@ first_none s i (Some v) (Some w) told ws h = h.0
 first_none s i (Some v) None told ws h = h.2.0 ∙ filled_words_none (numbers_ahead s.checked.now.plan s.runner h.0)
 
 begun_none : (s : Session) (k : ℕ) (told : Told) (ws : List ℕ) → TellsServiceAhead s k [] ws told → ws ≡ []
+unfolding TellsServiceAhead
 begun_none s zero told ws h = first_none s zero None None told ws h
 begun_none s (suc i) told ws h = first_none s i (slice_get s.checked.now.script.services i) s.runner.pending told ws h
 

@@ -1,4 +1,5 @@
 pub mod Answered
+pub mod Begun
 pub mod Calls
 pub mod Over
 pub mod Taken

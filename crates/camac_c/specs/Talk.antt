@@ -130,7 +130,7 @@ TellsFirst s i (Some v) None old new told =
     (os : List Wanted) × BeginsWith s.checked.now i os × TellsWords (numbers_ahead s.checked.now.plan s.runner os) old new told
 
 -- by its number from 1 on
-abbrev pub TellsServiceAhead : Session → (number : ℕ) → (old new : List ℕ) → Told → Type 0
+unfoldable pub TellsServiceAhead : Session → (number : ℕ) → (old new : List ℕ) → Told → Type 0
 TellsServiceAhead s zero old new told = TellsFirst s zero None None old new told
 TellsServiceAhead s (suc i) old new told = TellsFirst s i (slice_get s.checked.now.script.services i) s.runner.pending old new told
 
