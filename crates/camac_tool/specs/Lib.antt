@@ -9,6 +9,5 @@ pub mod Causes
 pub mod Status
 pub mod Gathered
 pub mod Streams
-pub mod Live
 pub mod Devices
 pub mod Files

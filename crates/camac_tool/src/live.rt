@@ -1,6 +1,7 @@
 // The streams of a live run.
 
-ghost use Rattle.camac_tool.specs.Live.{live_state};
+ghost use Rattle.std.specs.Prelude.{◌||◌, false, []};
+ghost use Rattle.camac_word.specs.Watched.{inner_of, has_failed};
 
 use crate::device::{Device, Whole};
 use camac_answer::fill;
@@ -21,7 +22,15 @@ pub struct Live<R: Read + Drop, L: Drop, E: Drop> {
 }
 
 impl<R: Read + Drop, L: Device + Drop, E: Device + Drop> RunIo for Live<R, L, E> {
-    ghost state = { live_state R.remaining L.contents L.failed E.contents E.failed };
+    ghost state = { λ s. record {
+      remaining = R.remaining (inner_of s.answers);
+      listed = L.contents s.requests.0;
+      recorded = E.contents s.records.0;
+      read_failed = has_failed s.answers;
+      write_failed = L.failed s.requests.0 || E.failed s.records.0;
+      gathers = false;
+      names = [];
+    } };
 
     fn read_line(&mut self, line: &mut [u8]) -> Result<usize, PlayFault> {
         match fill(&mut self.answers, line) {
