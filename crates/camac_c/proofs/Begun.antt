@@ -24,7 +24,6 @@ item_at xs i found x h is =
 pub told_first : (s : Session) (number i : ℕ) (old new : List ℕ) (told : Told) (services : List rust.Service) (found : Option (Bor rust.Service)) (x : Bor rust.Service) (os : List Wanted)
     → number ≡ suc i → map service_of services ≡ s.checked.now.script.services → IsItemAt services i found → found ≡ Some x → is_some s.runner.pending ≡ false
     → BeginsWith s.checked.now i os → TellsWords (numbers_ahead s.checked.now.plan s.runner os) old new told → TellsServiceAhead s number old new told
-unfolding TellsServiceAhead
 told_first s number i old new told services found x os e all h is idle begins words =
     let there : slice_get s.checked.now.script.services i ≡ Some (service_of x.now) = sym (ap (λ l. slice_get l i) all) ∙ slice_get-map service_of services i ∙ ap (option_map service_of) (item_at services i found x h is) in
-    rw (e, there, none_is s.runner.pending idle) (os, begins, words)
+    record { tells = rw (e, there, none_is s.runner.pending idle) (os, begins, words) }

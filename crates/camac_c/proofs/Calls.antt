@@ -10,7 +10,7 @@ use Rattle.camac_c.specs.Last.{last_lines, last_record}
 use Rattle.camac_c.specs.Place.{numbers_of_place}
 use Rattle.camac_c.specs.Plain.{only_code}
 use Rattle.camac_c.specs.Service.{name_at, numbers_at}
-use Rattle.camac_c.specs.Talk.{AnswersBytes, AnswersCode, AnswersCount, AnswersGoOn, AnswersNext, AnswersStep, AnswersText, AnswersWants, Lists, Talks, TellsFirst, TellsIf, TellsServiceAhead, TellsWords}
+use Rattle.camac_c.specs.Talk.{AnswersBytes, AnswersCode, AnswersCount, AnswersGoOn, AnswersNext, AnswersStep, AnswersText, AnswersWants, Lists, Talks, TellsFirst, TellsIf, TellsNumbered, TellsWords}
 use Rattle.camac_machine.specs.Course.{words_sent}
 use Rattle.camac_machine.specs.Rest.{Operation}
 use Rattle.camac_run.specs.declared.transfer.TransferLeft.{TransferLeft}
@@ -44,8 +44,7 @@ first_none s i None pending told ws h = h.0
 first_none s i (Some v) (Some w) told ws h = h.0
 first_none s i (Some v) None told ws h = h.2.0 ∙ filled_words_none (numbers_ahead s.checked.now.plan s.runner h.0)
 
-begun_none : (s : Session) (k : ℕ) (told : Told) (ws : List ℕ) → TellsServiceAhead s k [] ws told → ws ≡ []
-unfolding TellsServiceAhead
+begun_none : (s : Session) (k : ℕ) (told : Told) (ws : List ℕ) → TellsNumbered s k [] ws told → ws ≡ []
 begun_none s zero told ws h = first_none s zero None None told ws h
 begun_none s (suc i) told ws h = first_none s i (slice_get s.checked.now.script.services i) s.runner.pending told ws h
 
@@ -54,7 +53,7 @@ written None after a none told ws h = h.1
 written (Some s) None a none told ws h = absurd h
 written (Some s) (Some after) ask.Wants none told ws h = h.0
 written (Some s) (Some after) ask.Ahead none told ws h = h.1.2.0 ∙ filled_words_none (numbers_ahead s.checked.now.plan s.runner h.1.0)
-written (Some s) (Some after) (ask.ServiceAhead k) none told ws h = begun_none s k told ws h.1
+written (Some s) (Some after) (ask.ServiceAhead k) none told ws h = begun_none s k told ws h.1.tells
 written (Some s) (Some after) ask.Transfer none told ws h = h.1.2.0 ∙ filled_words_none (unwrap_or (option_map numbers_in h.1.0) [])
 written (Some s) (Some after) ask.ToWrite none told ws h = h.1.2.0 ∙ filled_words_none (unwrap_or (option_map (λ (t : TransferLeft). unwrap_or (words_sent t.table) []) h.1.0) [])
 written (Some s) (Some after) ask.Back none told ws h = h.1.1.0 ∙ filled_words_none (numbers_ahead s.checked.now.plan s.runner (back_in s.runner))

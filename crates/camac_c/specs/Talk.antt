@@ -129,10 +129,13 @@ TellsFirst s i (Some v) (Some w) old new told = (new ≡ old) × (told ≡ only_
 TellsFirst s i (Some v) None old new told =
     (os : List Wanted) × BeginsWith s.checked.now i os × TellsWords (numbers_ahead s.checked.now.plan s.runner os) old new told
 
+abbrev pub TellsNumbered : Session → (number : ℕ) → (old new : List ℕ) → Told → Type 0
+TellsNumbered s zero old new told = TellsFirst s zero None None old new told
+TellsNumbered s (suc i) old new told = TellsFirst s i (slice_get s.checked.now.script.services i) s.runner.pending old new told
+
 -- by its number from 1 on
-unfoldable pub TellsServiceAhead : Session → (number : ℕ) → (old new : List ℕ) → Told → Type 0
-TellsServiceAhead s zero old new told = TellsFirst s zero None None old new told
-TellsServiceAhead s (suc i) old new told = TellsFirst s i (slice_get s.checked.now.script.services i) s.runner.pending old new told
+pub record TellsServiceAhead (s : Session) (number : ℕ) (old new : List ℕ) (told : Told) : Type 0 where
+  pub tells : TellsNumbered s number old new told
 
 -- what sets the crates back, of which this is true
 abbrev pub TellsBack : Session → (old new : List ℕ) → Told → Type 0

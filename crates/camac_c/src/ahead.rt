@@ -74,7 +74,6 @@ pub fn back(session: &Session, bytes: &mut [u8]) -> Told
 }
 
 /// What a service surely makes first, by its number from 1 on. The waits are those of now, since a demand locks no crate.
-#[tactic(auto, unfolding(crate::specs::Talk::TellsServiceAhead))]
 pub fn first_of(session: &Session, number: u32, bytes: &mut [u8]) -> Told
     ensures { TellsServiceAhead session.now number bytes.old bytes.new result }
 {
