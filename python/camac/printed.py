@@ -32,9 +32,6 @@ PARTS: Dict[str, Tuple[str, Callable[[str], Any]]] = {
     "clears": ("(?: clears)?", bool),
     "twice": ("(?: clears 2)?", bool),
     "harm": ("|".join(it.value for it in Harm), Harm),
-    "each": (r"cycles \d+ words \d+ steps \d+", lambda it: Cost(*map(int, it.split()[1::2]))),
-    "cost": (r"\d+ \d+ \d+", lambda it: Cost(*map(int, it.split()))),
-    "about": (r"(?: at \S+ \S+ \S+(?: to \S+ \S+ \S+)?| turns \d+| crate \S+| proc \w+)?", str.lstrip),
     "quoted": ("[^`]+", str),
     "some": (".*?", str),
     "array": ("command|entry|type|crate|station", str),
@@ -86,7 +83,11 @@ BODY: "Form[Body]" = Form(
     lambda cycles, words, steps, of_c, of_w, of_s, **of: Body(most=Cost(cycles, words, steps), annotated=(of_c, of_w, of_s), rows=(), **of),
     r"{kind:kind} {name:word} line {line}(?: gl {gl} at \d+ \d+ \d+)? cycles {cycles} of {of_c} words {words} of {of_w} steps {steps}(?: of {of_s})?",
 )
-ROW = Form(Row, "line {line}(?: column {column})? depth {depth} {word:name} times {times} {each:each} share {share:cost}{about:about}")
+# There are many rows, so the parts of one are known by their places.
+ROW = re.compile(
+    r"line (\d+)(?: column (\d+))? depth (\d+) (\S+) times (\d+) cycles (\d+) words (\d+) steps (\d+) share (\d+) (\d+) (\d+)"
+    r"(?: (at \S+ \S+ \S+(?: to \S+ \S+ \S+)?|turns \d+|crate \S+|proc \w+))?", re.A
+)
 BUFFER = Form(lambda words: Plan(words, {}, ()), "buffer {words}")
 TYPE = Form(ModuleType, "type {name:name} commands {commands} probes {probes}")
 DECLARATION: "Form[Declaration]" = Form(
@@ -168,13 +169,19 @@ def read_responses(printed: str) -> List[Response]:
     return [it._replace(unkept=tuple(one for one in unkept if one.name == it.name)) for it in found if isinstance(it, Response)]
 
 
+def _row(found: "re.Match[str]") -> Row:
+    line, column, depth, word, times, *costs, about = found.groups()
+    cycles, words, steps, *share = map(int, costs)
+    return Row(int(line), int(depth), word, int(times), Cost(cycles, words, steps), Cost(*share), about or "", 0, 0, int(column) if column else None)
+
+
 def read_bodies(printed: str) -> List[Body]:
     """What `camac costs` prints. Waits and slack are not in it."""
     bodies: List[Tuple[Body, List[Row]]] = []
     for line in printed.splitlines():
-        row = ROW.read(line) if bodies else None
-        if row:
-            bodies[-1][1].append(row)
+        found = ROW.fullmatch(line) if bodies else None
+        if found:
+            bodies[-1][1].append(_row(found))
         else:
             bodies.append((_read(line, BODY), []))
     return [body._replace(rows=tuple(rows)) for body, rows in bodies]
@@ -195,7 +202,8 @@ def read_unkept(printed: str) -> List[Unkept]:
 def row_at(printed: str, line: int, column: int) -> Optional[Row]:
     """The row of the statement that begins at a place, in what `camac tell` prints."""
     found = re.search(rf"(?m)^line {line} column {column} .*$", printed)
-    return ROW.read(found[0]) if found else None
+    row = ROW.fullmatch(found[0]) if found else None
+    return _row(row) if row else None
 
 
 def line_of_body(printed: str, kind: BodyKind, name: str) -> Optional[str]:

@@ -1,20 +1,20 @@
 """The words, numbers and signs of a script, and where they are."""
 import functools
 import re
+from itertools import chain
 from typing import List, NamedTuple, Optional, Tuple
 
 NAME = r"[A-Za-z][A-Za-z0-9_]*"
 WORD = rf"{NAME}|[0-9]+|->|<-|\.\.|<=|>=|==|!=|[-{{}}()+*/%=,<>]"
-TOKEN = re.compile(rf"\n|#[^\n]*|({WORD})")
-# A token, or a byte that begins none, in a line without its comment.
-PIECE = re.compile(rf"{WORD}|[^ \t\r]")
-# The names, words of the language and braces of a text.
-NAMES = re.compile(rf"#[^\n]*|({NAME}|[{{}}])")
+# A token, or a byte that begins none, in a text without comments.
+PIECE = re.compile(rf"{WORD}|[^ \t\r\n]")
+COMMENT = re.compile("#[^\n]*")
 # What bytes are blanks at the end of a comment.
 BLANKS = " \t\r\v\f"
-_WHOLE = re.compile(WORD)
 # Python takes these for blanks, and camac does not.
-_ODD = re.compile(r"[\v\f\x1c-\x1f\x85\xa0]")
+ODD = re.compile(r"[\v\f\x1c-\x1f\x85\xa0]")
+# Most tokens are between blanks, and few differ: to cut each text apart takes eight times as long.
+_pieces = functools.lru_cache(maxsize=8192)(PIECE.findall)
 
 
 class Token(NamedTuple):
@@ -26,16 +26,26 @@ class Token(NamedTuple):
     line: int
 
 
+def cut(text: str) -> Tuple[List[str], List[int]]:
+    """The tokens of a text, and where each begins. A byte that begins no token may be one here."""
+    code = COMMENT.sub(lambda it: " " * len(it[0]), text) if "#" in text else text
+    words, starts, start = [*chain.from_iterable(map(_pieces, code.split()))], [], 0
+    for word in words:
+        start = code.index(word, start)
+        starts.append(start)
+        start += len(word)
+    return words, starts
+
+
 def tokens_of(text: bytes, start: int = 0, end: Optional[int] = None) -> List[Token]:
-    """The tokens of a script that is no refused text, or of a part of it."""
-    line, found = 1 + text.count(b"\n", 0, start), []
+    """The tokens of a text, or of a part of it."""
+    found, counted, line = [], 0, 1
     # Each byte is a letter, so that places are those in the bytes.
-    for it in TOKEN.finditer(text.decode("latin-1"), start, len(text) if end is None else end):
-        word = it[1]
-        if word:
-            found.append(Token(word, it.start(), it.end(), line))
-        elif it[0] == "\n":
-            line += 1
+    for word, at in zip(*cut(text[start:end].decode("latin-1"))):
+        at += start
+        line, counted = line + text.count(b"\n", counted, at), at
+        if is_token(word):
+            found.append(Token(word, at, at + len(word), line))
     return found
 
 
@@ -52,14 +62,11 @@ def rows_of(text: bytes) -> List[Row]:
 @functools.lru_cache(maxsize=8192)
 def _row(line: str) -> Row:
     code, sign, comment = line.partition("#")
-    words = code.split()
-    # Most tokens are between blanks: to cut the others apart takes three times as long.
-    if _ODD.search(code) or not all(map(is_token, words)):
-        words = PIECE.findall(code)
+    words = PIECE.findall(code) if ODD.search(code) else [*chain.from_iterable(map(_pieces, code.split()))]
     return words, f"#{comment}".rstrip(BLANKS) if sign else ""
 
 
 @functools.lru_cache(maxsize=8192)
 def is_token(piece: str) -> bool:
     """Whether a piece is a token, and no byte that begins none."""
-    return _WHOLE.fullmatch(piece) is not None
+    return re.fullmatch(WORD, piece) is not None

@@ -16,7 +16,7 @@ from camac.printed import read_headings
 from camac.program import verdict
 from camac.reader import read_script
 from camac.texts import GREATEST_TEXT
-from camac.tree import Assign, Body, For, Loop, Number, Range, Statement, blocks_of, parts_of
+from camac.tree import Assign, Body, For, Loop, Number, Range, Statement, parts_of
 
 # The most calls of the checker; the last ones are for headings.
 MOST_CALLS, LAST_CALLS = 200, 8
@@ -234,7 +234,7 @@ def _judged(statements: Iterable[Statement], chosen: Container[Statement]) -> Tu
     """What is judged where a block is judged once, and how much of that in an `each`: a turn counts one, and each statement in it."""
     judged = in_each = 0
     for it in statements:
-        blocks = [_judged(block, chosen) for block in blocks_of(it)]
+        blocks = [_judged(block, chosen) for block in it.blocks]
         inside, deeper = sum(one for one, _ in blocks), sum(one for _, one in blocks)
         if isinstance(it, For) and (it.is_each or it in chosen):
             inside = deeper = (it.turns or 0) * (1 + inside)

@@ -3,21 +3,21 @@ import re
 from collections import Counter
 from typing import Dict, Iterable, Iterator, List, NamedTuple, Optional, Sequence, Set, Tuple
 
-from camac.bodies import parse_costs
 from camac.drive import File
 from camac.edits import Edit, edited
 from camac.language import PARAMETER, REGISTER, Kind
-from camac.printed import costs_in, read_known
+from camac.printed import costs_in, read_bodies, read_known
 from camac.program import verdict
 from camac.subcommands import plan as ask_plan
 from camac.texts import GREATEST_TEXT, plan_text
+from camac.tokens import tokens_of
 from camac.tree import (
-    OPERATIONS, Assign, Body, Cycle, Expression, For, If, Loop, Name, Number, Operation, Range, Script, SetRegister, Statement, Transfer, all_in,
-    names_in, written_by,
+    FLAGS, OPERATIONS, Assign, Body, Cycle, Expression, For, If, Loop, Name, Number, Operation, Range, Script, SetRegister, Statement, Transfer, all_in,
+    names_in,
 )
-from camac.values import Address, Body as Costs, range_of
+from camac.values import Body as Costs, range_of
 from camac.warn.codes import Code, Warned
-from camac.warn.flow import FLAGS, Flow, Some, is_put
+from camac.warn.flow import OPEN, Flow, is_put
 
 # A number with a 0 before it, for which the tokens are looked through.
 ZERO = re.compile(rb"\b0\d")
@@ -35,7 +35,7 @@ def costs_with_arms(plan: File, text: bytes, script: Script, told: str, program:
     longer = edited(text, arms)
     if costs and arms and len(longer) <= GREATEST_TEXT:
         costs = verdict("costs", plan, longer, program).text
-    return parse_costs(costs)
+    return read_bodies(costs)
 
 
 class Guard(NamedTuple):
@@ -70,12 +70,12 @@ class Silent:
 
     def number(self, it: Statement, flow: Flow) -> Optional[int]:
         """The one number that a `put` of a variable puts; None if there are more."""
-        (put,), value = it.expressions, flow.value[it]
-        if names_in(put) and value is Some.OPEN and self.left:
+        value = flow.value[it] if it.names else None
+        if value is OPEN and self.left:
             self.left -= 1
-            low, high = self.range(it, put)
+            low, high = self.range(it, it.expressions[0])
             return low if low == high else None
-        return value if names_in(put) and isinstance(value, int) else None
+        return value if isinstance(value, int) else None
 
     def range(self, it: Statement, of: Expression) -> Range:
         """The range of an expression before a statement, by what the checker knows there of its names."""
@@ -104,7 +104,7 @@ class Silent:
         for adds, (it, _, total, step, most) in guards.items() if len(guards) <= MOST_ASKED else ():
             for loop in (one for one in flow.row if isinstance(one, Loop) and one.start < it.start < one.end):
                 # The outermost loop in which nothing else sets the sum.
-                setting = [one for one in all_in(loop.body) if written_by(one) == adds.name]
+                setting = [one for one in all_in(loop.body) if one.writes == adds.name]
                 if all(one in guards for one in setting):
                     steps = [(self.range(one, guards[one].step)[1], flow.row[one].times) for one in setting if isinstance(one, Assign)]
                     added = [step_of * times // flow.row[loop].times for step_of, times in steps]
@@ -116,9 +116,9 @@ class Silent:
 
     def of_tokens(self) -> Iterator[Warned]:
         """Names of the script that are never used, and numbers with a 0 before them."""
-        times = Counter([it.text for it in self.script.tokens])
-        yield from (_unused(it.line, kind, it.text) for it, kind in self.script.declared if times[it.text] == 1)
-        for it in self.script.tokens if ZERO.search(self.text) else ():
+        times = Counter(self.script.words)
+        yield from (_unused(line, kind, name) for name, line, kind in self.script.declared if times[name] == 1)
+        for it in tokens_of(self.text) if ZERO.search(self.text) else ():
             if it.text[:1] == "0" and set(it.text) <= set("01234567") and int(it.text, 8) != int(it.text):
                 yield Warned(it.line, Code.LEADING_ZERO, f"`{it.text}` is {int(it.text)} here, not {int(it.text, 8)}: numbers are decimal")
 
@@ -160,24 +160,24 @@ def _of_registers(flow: Flow) -> Iterator[Warned]:
     """Registers by which no cycle is made, and those by which the same cycle is made as by another one."""
     made = {register for it in flow.row if isinstance(it, (Cycle, Transfer)) for register in it.registers}
     set_by: Dict[str, SetRegister] = {}
-    first: Dict[Tuple[Address, int], SetRegister] = {}
+    first: Dict[Tuple[str, int], SetRegister] = {}
     for it, row in flow.row.items():
         if isinstance(it, SetRegister):
             if it.register not in made and it.register not in set_by:
                 yield _unused(it.line, REGISTER, it.register)
             set_by[it.register] = it
         elif isinstance(it, (Cycle, Transfer)) and len(it.registers) == 1 and row.times:
-            (at,), mine = row.addresses(), set_by[it.registers[0]]
-            other = first.get((at, it.function), mine)
+            mine = set_by[it.registers[0]]
+            other = first.get((row.about, it.function), mine)
             if other.register == mine.register or set_by[other.register] is not other:
-                first[at, it.function] = mine
-            elif all(low == high for low, high in at):
+                first[row.about, it.function] = mine
+            elif ".." not in row.about:
                 text = f"`{mine.register}` has the address of `{other.register}` (line {other.line}), and F{it.function} is sent by both"
                 yield Warned(mine.line, Code.TWINS, text)
 
 
 def _of_parameters(body: Body) -> Iterator[Warned]:
-    named = {*map(written_by, body.every), *(name for it in body.every for one in it.expressions for name in names_in(one))}
+    named = {*(it.writes for it in body.every), *(name for it in body.every for name in it.names)}
     return (_unused(body.line, PARAMETER, it) for it in body.variables if it not in named)
 
 
