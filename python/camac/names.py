@@ -148,7 +148,7 @@ class Names:
 
 def _is_number(text: str, start: int, end: int) -> bool:
     """Whether a part of a text, comments aside, is a number."""
-    words = [it for it in cut(text[start:end])[0] if is_token(it)]
+    words = [it for it in cut(text[start:end].encode("latin-1"))[0] if is_token(it)]
     return len(words) == 1 and words[0].isdigit()
 
 

@@ -32,6 +32,9 @@ PARTS: Dict[str, Tuple[str, Callable[[str], Any]]] = {
     "clears": ("(?: clears)?", bool),
     "twice": ("(?: clears 2)?", bool),
     "harm": ("|".join(it.value for it in Harm), Harm),
+    "each": (r"cycles \d+ words \d+ steps \d+", lambda it: Cost(*map(int, it.split()[1::2]))),
+    "cost": (r"\d+ \d+ \d+", lambda it: Cost(*map(int, it.split()))),
+    "about": (r"(?: at \S+ \S+ \S+(?: to \S+ \S+ \S+)?| turns \d+| crate \S+| proc \w+)?", str.lstrip),
     "quoted": ("[^`]+", str),
     "some": (".*?", str),
     "array": ("command|entry|type|crate|station", str),
@@ -83,11 +86,7 @@ BODY: "Form[Body]" = Form(
     lambda cycles, words, steps, of_c, of_w, of_s, **of: Body(most=Cost(cycles, words, steps), annotated=(of_c, of_w, of_s), rows=(), **of),
     r"{kind:kind} {name:word} line {line}(?: gl {gl} at \d+ \d+ \d+)? cycles {cycles} of {of_c} words {words} of {of_w} steps {steps}(?: of {of_s})?",
 )
-# There are many rows, so the parts of one are known by their places.
-ROW = re.compile(
-    r"line (\d+)(?: column (\d+))? depth (\d+) (\S+) times (\d+) cycles (\d+) words (\d+) steps (\d+) share (\d+) (\d+) (\d+)"
-    r"(?: (at \S+ \S+ \S+(?: to \S+ \S+ \S+)?|turns \d+|crate \S+|proc \w+))?", re.A
-)
+ROW = Form(Row, "line {line}(?: column {column})? depth {depth} {word:name} times {times} {each:each} share {share:cost}{about:about}")
 BUFFER = Form(lambda words: Plan(words, {}, ()), "buffer {words}")
 TYPE = Form(ModuleType, "type {name:name} commands {commands} probes {probes}")
 DECLARATION: "Form[Declaration]" = Form(
@@ -114,6 +113,9 @@ REQUESTS = (
 REFUSAL = Form(Refusal, "refused {code:code}(?: line {line}(?: column {column})?)?: {rule:rest}")
 # Where a refusal begins in what `camac tell` prints, and where the lines of `camac costs` do.
 REFUSED, UNKEPTS, BODIES = re.compile("(?m)^(?=refused )"), re.compile("(?m)^unkept "), re.compile("(?m)^(?:service|proc) \\w+ line ")
+# A row by its words; and which of them are its depth, the statement's word, how often it is made, the cycles of one time, and, from there on, its place.
+Words = List[str]
+DEPTH, WORD_OF, TIMES, CYCLES, PLACE_OF = 3, 4, 6, 8, 17
 SOURCE, MARK = re.compile(r" *\d+ \|.*"), re.compile(r" *\| \s*\^")
 # Of sentences.
 NEAR = Form(Near, r"Did you mean `{word:quoted}`(?: instead of `{earlier:quoted}`)?\?")
@@ -169,22 +171,29 @@ def read_responses(printed: str) -> List[Response]:
     return [it._replace(unkept=tuple(one for one in unkept if one.name == it.name)) for it in found if isinstance(it, Response)]
 
 
-def _row(found: "re.Match[str]") -> Row:
-    line, column, depth, word, times, *costs, about = found.groups()
-    cycles, words, steps, *share = map(int, costs)
-    return Row(int(line), int(depth), word, int(times), Cost(cycles, words, steps), Cost(*share), about or "", 0, 0, int(column) if column else None)
-
-
 def read_bodies(printed: str) -> List[Body]:
     """What `camac costs` prints. Waits and slack are not in it."""
     bodies: List[Tuple[Body, List[Row]]] = []
     for line in printed.splitlines():
-        found = ROW.fullmatch(line) if bodies else None
-        if found:
-            bodies[-1][1].append(_row(found))
+        row = ROW.read(line) if bodies else None
+        if row:
+            bodies[-1][1].append(row)
         else:
             bodies.append((_read(line, BODY), []))
     return [body._replace(rows=tuple(rows)) for body, rows in bodies]
+
+
+def read_rows(printed: str) -> List[List[Words]]:
+    """The rows of each body in what `camac costs` prints, or `camac tell`, without their columns. Values of them take three times as long."""
+    bodies: List[List[Words]] = []
+    for words in map(str.split, printed.splitlines()):
+        if words[0] == "line":
+            if words[2] == "column":
+                del words[2:4]
+            bodies[-1].append(words)
+        elif words[0] != "unkept" and words[2:3] == ["line"]:
+            bodies.append([])
+    return bodies
 
 
 def costs_in(printed: str) -> str:
@@ -202,8 +211,7 @@ def read_unkept(printed: str) -> List[Unkept]:
 def row_at(printed: str, line: int, column: int) -> Optional[Row]:
     """The row of the statement that begins at a place, in what `camac tell` prints."""
     found = re.search(rf"(?m)^line {line} column {column} .*$", printed)
-    row = ROW.fullmatch(found[0]) if found else None
-    return _row(row) if row else None
+    return ROW.read(found[0]) if found else None
 
 
 def line_of_body(printed: str, kind: BodyKind, name: str) -> Optional[str]:

@@ -1,20 +1,16 @@
 """The words, numbers and signs of a script, and where they are."""
 import functools
 import re
-from itertools import chain
 from typing import List, NamedTuple, Optional, Tuple
 
 NAME = r"[A-Za-z][A-Za-z0-9_]*"
 WORD = rf"{NAME}|[0-9]+|->|<-|\.\.|<=|>=|==|!=|[-{{}}()+*/%=,<>]"
-# A token, or a byte that begins none, in a text without comments.
-PIECE = re.compile(rf"{WORD}|[^ \t\r\n]")
-COMMENT = re.compile("#[^\n]*")
+# A token, or a byte that begins none, in what is no comment.
+PIECE = re.compile(rf"{WORD}|[^ \t\r]")
 # What bytes are blanks at the end of a comment.
 BLANKS = " \t\r\v\f"
-# Python takes these for blanks, and camac does not.
-ODD = re.compile(r"[\v\f\x1c-\x1f\x85\xa0]")
-# Most tokens are between blanks, and few differ: to cut each text apart takes eight times as long.
-_pieces = functools.lru_cache(maxsize=8192)(PIECE.findall)
+# The tokens of a line, where each begins in it, and its comment without the blanks at its end. A byte that begins no token is one here.
+Row = Tuple[List[str], List[int], str]
 
 
 class Token(NamedTuple):
@@ -26,44 +22,56 @@ class Token(NamedTuple):
     line: int
 
 
-def cut(text: str) -> Tuple[List[str], List[int]]:
-    """The tokens of a text, and where each begins. A byte that begins no token may be one here."""
-    code = COMMENT.sub(lambda it: " " * len(it[0]), text) if "#" in text else text
-    words, starts, start = [*chain.from_iterable(map(_pieces, code.split()))], [], 0
-    for word in words:
-        start = code.index(word, start)
-        starts.append(start)
-        start += len(word)
-    return words, starts
-
-
 def tokens_of(text: bytes, start: int = 0, end: Optional[int] = None) -> List[Token]:
     """The tokens of a text, or of a part of it."""
-    found, counted, line = [], 0, 1
-    # Each byte is a letter, so that places are those in the bytes.
-    for word, at in zip(*cut(text[start:end].decode("latin-1"))):
-        at += start
-        line, counted = line + text.count(b"\n", counted, at), at
-        if is_token(word):
-            found.append(Token(word, at, at + len(word), line))
-    return found
+    words, starts, lines = cut(text[start:end])
+    line = text.count(b"\n", 0, start)
+    return [Token(it, start + at, start + at + len(it), line + number) for it, at, number in zip(words, starts, lines) if is_token(it)]
 
 
-# The tokens of a line, and its comment without the blanks at its end. A byte that begins no token is one here.
-Row = Tuple[List[str], str]
+def cut(text: bytes) -> Tuple[List[str], List[int], List[int]]:
+    """The tokens of a text, where each begins, and its line. A byte that begins no token is one here."""
+    words: List[str] = []
+    starts: List[int] = []
+    lines: List[int] = []
+    start = 0
+    for number, line in enumerate(_lines(text), 1):
+        its, places, _ = _row(line)
+        for word, at in zip(its, places):
+            words.append(word)
+            starts.append(start + at)
+            lines.append(number)
+        start += len(line) + 1
+    return words, starts, lines
 
 
 def rows_of(text: bytes) -> List[Row]:
-    """The lines of any text. Bytes are signs of the same number, so that what is no UTF-8 is kept."""
-    return list(map(_row, text.decode("latin-1").split("\n")))
+    """The lines of any text."""
+    return list(map(_row, _lines(text)))
+
+
+def _lines(text: bytes) -> List[str]:
+    """Bytes are signs of the same number, so that what is no UTF-8 is kept, and places are those in the bytes."""
+    return text.decode("latin-1").split("\n")
 
 
 # An edit changes few lines, so an editor asks for nearly the same ones again.
 @functools.lru_cache(maxsize=8192)
 def _row(line: str) -> Row:
     code, sign, comment = line.partition("#")
-    words = PIECE.findall(code) if ODD.search(code) else [*chain.from_iterable(map(_pieces, code.split()))]
-    return words, f"#{comment}".rstrip(BLANKS) if sign else ""
+    words, places, at = [], [], 0
+    for piece in code.split(" "):
+        for word, place in _pieces(piece):
+            words.append(word)
+            places.append(at + place)
+        at += len(piece) + 1
+    return words, places, f"#{comment}".rstrip(BLANKS) if sign else ""
+
+
+# Few of them differ, and to cut one apart takes long.
+@functools.lru_cache(maxsize=8192)
+def _pieces(piece: str) -> List[Tuple[str, int]]:
+    return [(it[0], it.start()) for it in PIECE.finditer(piece)]
 
 
 @functools.lru_cache(maxsize=8192)

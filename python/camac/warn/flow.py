@@ -2,7 +2,7 @@
 from typing import AbstractSet, Dict, FrozenSet, List, Mapping, Sequence, Set, Tuple, Union
 
 from camac.tree import FLAGS, OPERATIONS, Assign, Body, Cycle, Expression, For, If, Loop, Name, Number, Plain, Statement, Transfer
-from camac.values import Row
+from camac.printed import DEPTH, TIMES, WORD_OF, Words
 
 # Of a quotient by so much or less the checker is not asked whether it is one number: few registers are so narrow.
 SMALL = 15
@@ -55,17 +55,19 @@ def is_put(it: Statement) -> bool:
 class Flow:
     """The pass over a body, with its rows of `camac costs`. `flows` has the procedures before it.
 
-    row     of each statement its row, and in `other` of each `if` that of its `else`
+    row     of each statement its row, and in `made` those of statements that are made at least once
+    always  each `if` whose `else` is never reached
     used    what may have set what is used
     unset   the uses of names before which no statement sets them, on any way
     value   of each assignment and `put` what it is"""
 
-    def __init__(self, body: Body, rows: Sequence[Row], flows: "Mapping[str, Flow]") -> None:
+    def __init__(self, body: Body, rows: Sequence[Words], flows: "Mapping[str, Flow]") -> None:
         self.rows, self.at, self.flows, self.makes_cycles = rows, 0, flows, False
         self.now: Dict[str, Settings] = dict.fromkeys(body.variables, frozenset((None if body.is_service else GIVEN,)))
         self.now[FLAGS] = frozenset((None if body.is_service else EARLIER,))
-        self.row: Dict[Statement, Row] = {}
-        self.other: Dict[If, Row] = {}
+        self.row: Dict[Statement, Words] = {}
+        self.made: Dict[Statement, Words] = {}
+        self.always: Set[Statement] = set()
         self.used: Set[Setting] = set()
         self.value: Dict[Statement, Value] = {}
         self.uses: List[Tuple[Statement, str, Settings]] = []
@@ -73,13 +75,12 @@ class Flow:
         self.used = whole(self.used)
         self.unset = [(it, name) for it, name, settings in self.uses if not is_set(whole(settings))]
 
-    def next_row(self) -> Row:
-        self.at += 1
-        return self.rows[self.at - 1]
-
     def block(self, statements: Sequence[Statement]) -> None:
         for it in statements:
-            self.row[it] = self.next_row()
+            row = self.row[it] = self.rows[self.at]
+            self.at += 1
+            if row[TIMES] != "0":
+                self.made[it] = row
             if isinstance(it, Loop):
                 self.loop(it)
                 continue
@@ -96,7 +97,7 @@ class Flow:
         for name in it.names:
             settings = self.now[name]
             self.used |= settings
-            if not is_set(settings) and self.row[it].times:
+            if not is_set(settings) and it in self.made:
                 self.uses.append((it, name, settings))
 
     def value_of(self, it: Expression) -> Value:
@@ -139,8 +140,11 @@ class Flow:
         before = dict(self.now)
         self.block(it.body)
         after, self.now = self.now, before
-        if self.at < len(self.rows) and self.rows[self.at].word == "else" and self.rows[self.at].depth == self.row[it].depth:
-            self.other[it] = self.next_row()
+        row = self.rows[self.at] if self.at < len(self.rows) else self.row[it]
+        if row[WORD_OF] == "else" and row[DEPTH] == self.row[it][DEPTH]:
+            self.at += 1
+            if row[TIMES] == "0":
+                self.always.add(it)
         self.block(it.other)
         for name, settings in after.items():
             if settings is not self.now[name]:
