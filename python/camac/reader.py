@@ -35,7 +35,7 @@ class _Reader:
     expressions and the names in them."""
 
     def __init__(self, text: bytes) -> None:
-        self.words, self.starts, self.lines = cut(text)
+        self.words, self.places, self.lines, self.begins = cut(text)
         self.words.append("")
         self.at = self.first = 0
         self.variables: Dict[str, Range] = {}
@@ -58,9 +58,12 @@ class _Reader:
             raise ValueError(f"line {self.lines[self.at]}: `{self.words[self.at]}` in the place of `{word}`")
         self.at += 1
 
+    def start(self, at: int) -> int:
+        return self.begins[self.lines[at]] + self.places[at]
+
     def end(self) -> int:
         """Where the last token ends that was taken."""
-        return self.starts[self.at - 1] + len(self.words[self.at - 1])
+        return self.start(self.at - 1) + len(self.words[self.at - 1])
 
     def script(self) -> Script:
         script = Script(self.words)
@@ -80,12 +83,12 @@ class _Reader:
         return script
 
     def heading(self) -> Body:
-        line, start, is_service, name = self.lines[self.at], self.starts[self.at], self.next() == "service", self.next()
+        line, start, is_service, name = self.lines[self.at], self.start(self.at), self.next() == "service", self.next()
         body = Body(name, is_service, line, start, dict(self.variables) if is_service else self.parameters())
         while self.words[self.at] != "{":
             word = self.next()
             if word.isdigit():
-                body.numbers.append(Number(int(word), self.starts[self.at - 1], self.end()))
+                body.numbers.append(Number(int(word), self.start(self.at - 1), self.end()))
         return body
 
     def body(self) -> Body:
@@ -124,24 +127,24 @@ class _Reader:
 
     def begun(self, it: Begun) -> Begun:
         """A statement of which all is read but its blocks."""
-        it.line, it.start = self.lines[self.first], self.starts[self.first]
+        it.line, it.start = self.lines[self.first], self.start(self.first)
         it.expressions, it.names, self.expressions, self.names = self.expressions, self.names, [], []
         self.every.append(it)
         return it
 
     def assign(self, word: str) -> Statement:
         self.expect("=")
-        return self.begun(Assign(word, self.value()))
+        return self.begun(Assign(word, self.expression()))
 
     def set_register(self, _: str) -> Statement:
         register = self.next()
         self.next()
-        return self.begun(SetRegister(register, (self.value(), self.value(), self.value())))
+        return self.begun(SetRegister(register, (self.expression(), self.expression(), self.expression())))
 
     def cycle(self, word: str) -> Statement:
         function, registers = int(self.next()), (self.next(),)
         into = self.next() if self.takes("->") else None
-        value = self.value() if self.takes("<-") else None
+        value = self.expression() if self.takes("<-") else None
         return self.begun(Cycle(word == "cssa", function, registers, into, value))
 
     def transfer(self, word: str) -> Statement:
@@ -151,13 +154,13 @@ class _Reader:
         if self.takes("table"):
             self.next()
         self.expect("max")
-        most = self.value()
-        limit = self.value() if self.takes("limit") else None
+        most = self.expression()
+        limit = self.expression() if self.takes("limit") else None
         self.expect("tally")
         return self.begun(Transfer(function, tuple(registers), most, limit, self.next()))
 
     def plain(self, word: str) -> Statement:
-        made = Plain(word, self.next()) if word in LAM_CALLS else Plain(word, "", (self.value(),))
+        made = Plain(word, self.next()) if word in LAM_CALLS else Plain(word, "", (self.expression(),))
         if not self.takes("on"):
             self.takes("off")
         return self.begun(made)
@@ -166,7 +169,7 @@ class _Reader:
         name, values = self.next(), []
         self.expect("(")
         while not self.takes(")"):
-            values.append(self.value())
+            values.append(self.expression())
             self.takes(",")
         return self.begun(Plain(word, name, tuple(values)))
 
@@ -179,7 +182,7 @@ class _Reader:
         return made
 
     def lock(self, _: str) -> Statement:
-        self.value()
+        self.expression()
         made = self.begun(Lock())
         self.block(made.body)
         return made
@@ -187,11 +190,11 @@ class _Reader:
     def loop(self, word: str) -> Statement:
         made = self.begun(self.for_() if word == "for" else self.while_())
         if self.takes("keep"):
-            made.keep = self.starts[self.at - 1]
+            made.keep = self.start(self.at - 1)
             made.keeps.append(self.keep())
             while self.takes(","):
                 made.keeps.append(self.keep())
-        made.block, inside = self.starts[self.at], len(self.every)
+        made.block, inside = self.start(self.at), len(self.every)
         self.block(made.body)
         made.written = frozenset([it.writes for it in self.every[inside:] if it.writes]) - {made.name}
         return made
@@ -199,9 +202,9 @@ class _Reader:
     def for_(self) -> Loop:
         name = self.next()
         self.expect("=")
-        first_at, first = self.at, self.value()
+        first_at, first = self.at, self.expression()
         self.expect("to")
-        last_at, last = self.at, self.value()
+        last_at, last = self.at, self.expression()
         is_plain = self.words[first_at].isdigit() and self.words[last_at].isdigit()
         turns = max(0, last.value + 1 - first.value) if is_plain and isinstance(first, Number) and isinstance(last, Number) else None
         return For(name, first, last, turns, self.takes(EACH))
@@ -215,8 +218,8 @@ class _Reader:
 
     def keep(self) -> Keep:
         at, name, kept = self.at, self.next(), self.range()
-        low, high = ((self.starts[it], self.starts[it] + len(self.words[it])) for it in (at + 2, at + 4))
-        return Keep(name, kept, low, high, self.starts[at], high[1])
+        low, high = ((self.start(it), self.start(it) + len(self.words[it])) for it in (at + 2, at + 4))
+        return Keep(name, kept, low, high, self.start(at), high[1])
 
     def condition(self) -> Tuple[Part, ...]:
         parts = [self.part()]
@@ -225,27 +228,22 @@ class _Reader:
         return tuple(parts)
 
     def part(self) -> Part:
-        begin = self.starts[self.at]
+        begin = self.start(self.at)
         is_negated = self.takes("not")
         if self.takes("q") or self.takes("x"):
             self.names += () if FLAGS in self.names else (FLAGS,)
             return Part(None, "", begin, self.end())
-        left, sign, right = self.value(), self.next(), self.value()
+        left, sign, right = self.expression(), self.next(), self.expression()
         return Part((left, right), OPPOSITE[sign] if is_negated else sign, begin, self.end())
 
-    def value(self) -> Expression:
-        """An expression of the statement, and none that is part of another one."""
-        found = self.expression()
-        self.expressions.append(found)
-        return found
-
-    def expression(self, bound: int = 0) -> Expression:
-        """An expression, whose signs bind closer than so."""
-        word, start = self.words[self.at], self.starts[self.at]
-        self.at += 1
+    def expression(self, bound: int = -1) -> Expression:
+        """An expression whose signs bind closer than so; without a bound one of the statement, that is no part of another one."""
+        at = self.at
+        word, start = self.words[at], self.begins[self.lines[at]] + self.places[at]
+        self.at = at + 1
         found: Expression
         if word == "(":
-            found = self.expression()
+            found = self.expression(0)
             self.expect(")")
             found = found._replace(start=start, end=self.end())
         elif word.isdigit():
@@ -253,10 +251,12 @@ class _Reader:
         else:
             self.names.append(word)
             found = new(Name, (word, start, start + len(word)))
-        while BINDS.get(self.words[self.at], 0) > bound:
+        while BINDS.get(self.words[self.at], -1) > bound:
             sign = self.next()
             right = self.expression(BINDS[sign])
             found = new(Operation, (sign, found, right, found.start, self.end()))
+        if bound < 0:
+            self.expressions.append(found)
         return found
 
 

@@ -24,25 +24,26 @@ class Token(NamedTuple):
 
 def tokens_of(text: bytes, start: int = 0, end: Optional[int] = None) -> List[Token]:
     """The tokens of a text, or of a part of it."""
-    words, starts, lines = cut(text[start:end])
-    line = text.count(b"\n", 0, start)
-    return [Token(it, start + at, start + at + len(it), line + number) for it, at, number in zip(words, starts, lines) if is_token(it)]
+    words, places, lines, begins = cut(text[start:end])
+    before = text.count(b"\n", 0, start)
+    starts = [start + begins[line] + place for place, line in zip(places, lines)]
+    return [Token(it, at, at + len(it), before + line) for it, at, line in zip(words, starts, lines) if is_token(it)]
 
 
-def cut(text: bytes) -> Tuple[List[str], List[int], List[int]]:
-    """The tokens of a text, where each begins, and its line. A byte that begins no token is one here."""
+def cut(text: bytes) -> Tuple[List[str], List[int], List[int], List[int]]:
+    """The tokens of a text, where each begins in its line, and the line; and where each line begins. A byte that begins no token is one here."""
     words: List[str] = []
-    starts: List[int] = []
+    places: List[int] = []
     lines: List[int] = []
-    start = 0
+    begins, begin = [0], 0
     for number, line in enumerate(_lines(text), 1):
-        its, places, _ = _row(line)
-        for word, at in zip(its, places):
-            words.append(word)
-            starts.append(start + at)
-            lines.append(number)
-        start += len(line) + 1
-    return words, starts, lines
+        its, ats, _ = _row(line)
+        words += its
+        places += ats
+        lines += [number] * len(its)
+        begins.append(begin)
+        begin += len(line) + 1
+    return words, places, lines, begins
 
 
 def rows_of(text: bytes) -> List[Row]:

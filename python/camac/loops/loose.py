@@ -21,7 +21,7 @@ def wide_keeps(plan: File, text: bytes, bodies: Sequence[Body], program: Optiona
     if not loops:
         return
     unused = {keep.start for loop in loops for keep in loop.keeps if accepts(plan, edited(text, [_without(text, loop, keep)]), program)}
-    least = least_ranges(plan, text, {keep.start for loop in loops for keep in loop.keeps} - unused, program)
+    least = least_ranges(plan, text, bodies, {keep.start for loop in loops for keep in loop.keeps} - unused, program)
     for loop in loops:
         for keep in loop.keeps:
             line = loop.line + text.count(b"\n", loop.start, keep.start)

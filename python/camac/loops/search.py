@@ -3,7 +3,7 @@ be: the checker judges what it finds."""
 import bisect
 import re
 from collections import Counter
-from typing import AbstractSet, Callable, Container, Dict, Iterable, List, Optional, Set, Tuple, Union
+from typing import AbstractSet, Callable, Container, Dict, Iterable, List, Optional, Sequence, Set, Tuple, Union
 
 from camac.drive import File, Refused
 from camac.edits import edited
@@ -45,7 +45,7 @@ def propose(plan: File, script: bytes, program: Optional[File] = None, keeps_onl
         raise refusal
     if is_long or refusal and refusal.code[0] != "E":
         return Proposals((), Remaining(refusal.code, refusal.line, refusal.rule) if refusal else None, 1)
-    search = _Search(plan, script, program, keeps_only)
+    search = _Search(plan, script, read_script(script).bodies, program, keeps_only)
     remaining = search.run(refusal is not None)
     proposals = sorted([*search.found.proposals(), *search.headings], key=lambda it: (it.line, it.edits))
     return Proposals(tuple(proposals), remaining, len(search.trials.told) + 1)
@@ -63,9 +63,9 @@ def write_keeps(plan: File, script: str, program: Optional[File] = None) -> List
     return found
 
 
-def least_ranges(plan: File, script: bytes, kept: AbstractSet[int], program: Optional[File] = None) -> Dict[int, Range]:
+def least_ranges(plan: File, script: bytes, bodies: Sequence[Body], kept: AbstractSet[int], program: Optional[File] = None) -> Dict[int, Range]:
     """The ranges of an accepted script, of those that begin at these places, that are accepted in all, too, and are less; nothing if there is none."""
-    search = _Search(plan, script, program, keeps_only=True)
+    search = _Search(plan, script, bodies, program, keeps_only=True)
     keeps = {(loop, it.name): it for loop, _ in search.given for it in loop.keeps if it.start in kept}
     search.found.kept = dict.fromkeys(keeps, NOTHING)
     stopped = search.stopped(BOUNDS) if keeps else None
@@ -80,9 +80,8 @@ def least_ranges(plan: File, script: bytes, kept: AbstractSet[int], program: Opt
 class _Search:
     """A search for what the loops of one script need."""
 
-    def __init__(self, plan: File, text: bytes, program: Optional[File], keeps_only: bool = False) -> None:
-        self.text, self.keeps_only = text, keeps_only
-        self.bodies = read_script(text).bodies
+    def __init__(self, plan: File, text: bytes, bodies: Sequence[Body], program: Optional[File], keeps_only: bool = False) -> None:
+        self.text, self.bodies, self.keeps_only = text, bodies, keeps_only
         self.trials = Trials(plan, text, self.bodies, program)
         self.changes = Changes(text)
         loops = [it for body in self.bodies for it in body.every if isinstance(it, Loop)]
