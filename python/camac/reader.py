@@ -63,7 +63,8 @@ class _Reader:
 
     def end(self) -> int:
         """Where the last token ends that was taken."""
-        return self.start(self.at - 1) + len(self.words[self.at - 1])
+        at = self.at - 1
+        return self.begins[self.lines[at]] + self.places[at] + len(self.words[at])
 
     def script(self) -> Script:
         script = Script(self.words)
@@ -85,10 +86,9 @@ class _Reader:
     def heading(self) -> Body:
         line, start, is_service, name = self.lines[self.at], self.start(self.at), self.next() == "service", self.next()
         body = Body(name, is_service, line, start, dict(self.variables) if is_service else self.parameters())
-        while self.words[self.at] != "{":
-            word = self.next()
-            if word.isdigit():
-                body.numbers.append(Number(int(word), self.start(self.at - 1), self.end()))
+        begin, self.at = self.at, self.words.index("{", self.at)
+        places = ((it, self.start(at)) for at, it in enumerate(self.words[begin : self.at], begin) if it.isdigit())
+        body.numbers += (Number(int(it), start, start + len(it)) for it, start in places)
         return body
 
     def body(self) -> Body:
@@ -115,8 +115,9 @@ class _Reader:
 
     def block(self, into: List[Statement]) -> None:
         self.expect("{")
-        while not self.takes("}"):
+        while self.words[self.at] != "}":
             into.append(self.statement())
+        self.at += 1
 
     def statement(self) -> Statement:
         self.first = self.at

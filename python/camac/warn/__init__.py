@@ -44,7 +44,7 @@ def look_at(plan: File, text: bytes, told: str, program: Optional[File] = None) 
         return [], [Warned(1, Code.NO_SERVICE, "this script has no service, so a run of it makes no cycle")]
     silent = Silent(plan, text, parsed, rows, program).found()
     found = [*silent, *_unkept(parsed, read_unkept(told)), *_held_up(parsed, services), *_loose(plan, text, parsed, program)]
-    return services, sorted(found, key=lambda it: (it.line, it.code.value))
+    return services, sorted(found, key=lambda it: (it.line, it.code._value_))
 
 
 def looks_for_all(program: Optional[File] = None) -> bool:

@@ -121,21 +121,24 @@ class Silent:
 
 
 def _unused(line: int, kind: Kind, name: str) -> Warned:
-    return Warned(line, Code.UNUSED_NAME, f"the {kind.value} `{name}` is never used")
+    return Warned(line, Code.UNUSED_NAME, f"the {kind._value_} `{name}` is never used")
 
 
 def _of_rows(flow: Flow) -> Iterator[Warned]:
     """Blocks that are never reached, and scans without a cycle."""
     for it, row in flow.made.items():
-        first = it.body[0] if isinstance(it, (If, Loop)) and it.body else it
+        first = it.blocks[0][0] if it.blocks and it.blocks[0] else it
         if row[WORD_OF] == "cfmad" and row[CYCLES] == "0":
             yield Warned(it.line, Code.EMPTY_SCAN, "this scan makes no cycle: its first address is after its last one, or `max` is 0")
         elif first not in flow.made and isinstance(it, For):
             yield Warned(first.line, Code.UNREACHED, f"`{flow.row[first][WORD_OF]}` is never reached")
         elif first not in flow.made:
             yield Warned(it.line, Code.DECIDED, f"this condition is always false: `{flow.row[first][WORD_OF]}` on line {first.line} is never reached")
-        elif isinstance(it, If) and it in flow.always:
-            rest = f"`{flow.row[it.other[0]][WORD_OF]}` on line {it.other[0].line} is never reached" if it.other else "its block is always made"
+        elif it in flow.always:
+            rest = "its block is always made"
+            if it.blocks[1]:
+                first = it.blocks[1][0]
+                rest = f"`{flow.row[first][WORD_OF]}` on line {first.line} is never reached"
             yield Warned(it.line, Code.DECIDED, f"this condition is always true: {rest}")
 
 
