@@ -52,8 +52,8 @@ class Judged(NamedTuple):
 
     def text(self) -> str:
         """For people, and for editors that look for FILE:LINE: or FILE:LINE:COLUMN:."""
-        places = (":".join([self.file, *(str(number) for number in (it.line, it.column) if number is not None)]) for it in self.found)
-        return "".join(f"{place}: {it.title()}: {it.text}\n" for place, it in zip(places, self.found))
+        numbers = ((it, "" if it.line is None else f":{it.line}", "" if it.column is None else f":{it.column}") for it in self.found)
+        return "".join([f"{self.file}{line}{column}: {it.title()}: {it.text}\n" for it, line, column in numbers])
 
     def github(self) -> str:
         """For GitHub, which shows it at the line (workflow commands)."""
@@ -109,7 +109,7 @@ def _judge_script(plan: TextFile, name: str, program: Optional[File], writes: bo
         script.text()
         accepted, warned = look(plan, script, program)
         services.extend(accepted)
-        return [Found("warning", it.line, it.code.value, it.text) for it in warned]
+        return [Found("warning", it.line, it.code._value_, it.text) for it in warned]
 
     files = [plan, script]
     found = (_faults(write, files) if writes else []) or _faults(judged, files)

@@ -4,10 +4,12 @@ from bisect import bisect_right
 from typing import Dict, Iterator, List, NamedTuple, Optional, Set, Tuple
 
 from camac.language import AFTER, BODIES, DECLARATIONS, EACH, LAM, PARAMETER, PROCEDURE, REGISTER, TABLE, VARIABLE, WORDS, Kind
-from camac.tokens import NAME, NAMES, TOKEN
+from camac.tokens import NAME, cut, is_token
 
 LONGEST = 32
 SCRIPT = -1
+# The names, words of the language and braces of a text.
+NAMES = re.compile(rf"#[^\n]*|({NAME}|[{{}}])")
 
 
 class Symbol(NamedTuple):
@@ -146,8 +148,8 @@ class Names:
 
 def _is_number(text: str, start: int, end: int) -> bool:
     """Whether a part of a text, comments aside, is a number."""
-    tokens = [it[1] for it in TOKEN.finditer(text, start, end) if it[1]]
-    return len(tokens) == 1 and tokens[0].isdigit()
+    words = [it for it in cut(text[start:end].encode("latin-1"))[0] if is_token(it)]
+    return len(words) == 1 and words[0].isdigit()
 
 
 def fault_of_new_name(names: Names, symbol: Symbol, new: str) -> Optional[str]:

@@ -113,6 +113,9 @@ REQUESTS = (
 REFUSAL = Form(Refusal, "refused {code:code}(?: line {line}(?: column {column})?)?: {rule:rest}")
 # Where a refusal begins in what `camac tell` prints, and where the lines of `camac costs` do.
 REFUSED, UNKEPTS, BODIES = re.compile("(?m)^(?=refused )"), re.compile("(?m)^unkept "), re.compile("(?m)^(?:service|proc) \\w+ line ")
+# A row by its words; and which of them are its depth, the statement's word, how often it is made, the cycles of one time, and, from there on, its place.
+Words = List[str]
+DEPTH, WORD_OF, TIMES, CYCLES, PLACE_OF = 3, 4, 6, 8, 17
 SOURCE, MARK = re.compile(r" *\d+ \|.*"), re.compile(r" *\| \s*\^")
 # Of sentences.
 NEAR = Form(Near, r"Did you mean `{word:quoted}`(?: instead of `{earlier:quoted}`)?\?")
@@ -178,6 +181,19 @@ def read_bodies(printed: str) -> List[Body]:
         else:
             bodies.append((_read(line, BODY), []))
     return [body._replace(rows=tuple(rows)) for body, rows in bodies]
+
+
+def read_rows(printed: str) -> List[List[Words]]:
+    """The rows of each body in what `camac costs` prints, or `camac tell`, without their columns. Values of them take three times as long."""
+    bodies: List[List[Words]] = []
+    for words in map(str.split, printed.splitlines()):
+        if words[0] == "line":
+            if words[2] == "column":
+                del words[2:4]
+            bodies[-1].append(words)
+        elif words[0] != "unkept" and words[2:3] == ["line"]:
+            bodies.append([])
+    return bodies
 
 
 def costs_in(printed: str) -> str:

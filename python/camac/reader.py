@@ -1,101 +1,100 @@
 """Reads a script that is no refused text into a tree."""
-from typing import Callable, Dict, List, Tuple
+from typing import Callable, Dict, List, Tuple, TypeVar
 
 from camac.language import BODIES, CRATE_CALLS, DECLARATIONS, EACH, LAM, LAM_CALLS, PROCEDURE, SINGLE, TABLE, TRANSFERS, VARIABLE
-from camac.tokens import NAMES, Token, tokens_of
+from camac.tokens import cut
 from camac.tree import (
-    Assign, Body, Cycle, Expression, For, If, Keep, Lock, Loop, Name, Number, Operation, Part, Plain, Range, Script, SetRegister, Statement, Transfer, While,
-    all_in, written_by,
+    FLAGS, Assign, Body, Cycle, Expression, For, If, Keep, Lock, Loop, Name, Number, Operation, Part, Plain, Range, Script, SetRegister, Statement,
+    Transfer, While,
 )
 
 OPPOSITE = {"<": ">=", ">=": "<", "<=": ">", ">": "<=", "==": "!=", "!=": "=="}
-END = Token("", 0, 0, 0)
+# How close a sign binds its sides.
+BINDS = {"+": 1, "-": 1, "*": 2, "/": 2, "%": 2}
+Begun = TypeVar("Begun", bound=Statement)
+# Makes a named tuple of a tuple in half the time of its own call.
+new = tuple.__new__
 
 
 def read_script(text: bytes) -> Script:
-    return _Reader(tokens_of(text)).script()
+    return _Reader(text).script()
 
 
 def read_headings(text: bytes) -> List[Body]:
     """The services and procedures of a script without their statements."""
-    found: List[Body] = []
-    start = -1
-    for it in NAMES.finditer(text.decode("latin-1")):
-        if it[1] in BODIES:
-            start = it.start()
-        elif it[1] == "{" and start >= 0:
-            found.append(_Reader(tokens_of(text, start, it.end())).heading())
-            start = -1
+    reader, found = _Reader(text), []
+    for at, word in enumerate(reader.words):
+        if word in BODIES:
+            reader.at = at
+            found.append(reader.heading())
     return found
 
 
 class _Reader:
-    """Tokens, of which those before `at` are read, with one more at their end."""
+    """The tokens of a script, of which those before `at` are read, with an empty one at their end; and of the statement that is read where it begins, its
+    expressions and the names in them."""
 
-    def __init__(self, tokens: List[Token]) -> None:
-        self.tokens, self.at = [*tokens, END], 0
+    def __init__(self, text: bytes) -> None:
+        self.words, self.places, self.lines, self.begins = cut(text)
+        self.words.append("")
+        self.at = self.first = 0
         self.variables: Dict[str, Range] = {}
+        self.expressions: List[Expression] = []
+        self.names: List[str] = []
+        self.every: List[Statement] = []
 
-    def next(self) -> Token:
+    def next(self) -> str:
         self.at += 1
-        return self.tokens[self.at - 1]
+        return self.words[self.at - 1]
 
-    def word(self) -> str:
-        """The text of the token that comes next, which is not taken."""
-        return self.tokens[self.at].text
-
-    def takes(self, *words: str) -> bool:
-        """Takes the next token if it is one of these."""
-        is_there = self.word() in words
+    def takes(self, word: str) -> bool:
+        """Takes the next token if it is this one."""
+        is_there = self.words[self.at] == word
         self.at += is_there
         return is_there
 
-    def expect(self, word: str) -> Token:
-        token = self.next()
-        if token.text != word:
-            raise ValueError(f"line {token.line}: `{token.text}` in the place of `{word}`")
-        return token
+    def expect(self, word: str) -> None:
+        if self.words[self.at] != word:
+            raise ValueError(f"line {self.lines[self.at]}: `{self.words[self.at]}` in the place of `{word}`")
+        self.at += 1
+
+    def start(self, at: int) -> int:
+        return self.begins[self.lines[at]] + self.places[at]
 
     def end(self) -> int:
         """Where the last token ends that was taken."""
-        return self.tokens[self.at - 1].end
-
-    def number(self) -> int:
-        return int(self.next().text)
+        at = self.at - 1
+        return self.begins[self.lines[at]] + self.places[at] + len(self.words[at])
 
     def script(self) -> Script:
-        script = Script(self.tokens)
-        while self.word():
-            word = self.word()
+        script = Script(self.words)
+        kind = {"cdlam": LAM, "table": TABLE, "proc": PROCEDURE}
+        while self.words[self.at]:
+            word = self.words[self.at]
+            if word in kind:
+                script.declared.append((self.words[self.at + 1], self.lines[self.at + 1], kind[word]))
             if word in BODIES:
-                if word == "proc":
-                    script.declared.append((self.tokens[self.at + 1], PROCEDURE))
                 script.bodies.append(self.body())
-            elif self.takes("var"):
-                # The next declaration begins with a word of the language.
-                while self.word() not in ("", "table") and self.word() not in DECLARATIONS:
-                    script.declared.append((self.next(), VARIABLE))
-                    self.variables[self.tokens[self.at - 1].text] = (0, 0)
-            elif self.takes("cdlam", "table"):
-                script.declared.append((self.next(), TABLE if word == "table" else LAM))
-            else:
-                self.next()
+                continue
+            self.at += 1
+            # The next declaration begins with a word of the language.
+            while word == "var" and self.words[self.at] not in ("", "table") and self.words[self.at] not in DECLARATIONS:
+                script.declared.append((self.words[self.at], self.lines[self.at], VARIABLE))
+                self.variables[self.next()] = (0, 0)
         return script
 
     def heading(self) -> Body:
-        first, name = self.next(), self.next().text
-        is_service = first.text == "service"
-        body = Body(name, is_service, first.line, first.start, dict(self.variables) if is_service else self.parameters())
-        while self.word() != "{":
-            token = self.next()
-            if token.text.isdigit():
-                body.numbers.append(Number(int(token.text), token.start, token.end))
+        line, start, is_service, name = self.lines[self.at], self.start(self.at), self.next() == "service", self.next()
+        body = Body(name, is_service, line, start, dict(self.variables) if is_service else self.parameters())
+        begin, self.at = self.at, self.words.index("{", self.at)
+        places = ((it, self.start(at)) for at, it in enumerate(self.words[begin : self.at], begin) if it.isdigit())
+        body.numbers += (Number(int(it), start, start + len(it)) for it, start in places)
         return body
 
     def body(self) -> Body:
         body = self.heading()
-        body.statements = self.block()
-        body.every = list(all_in(body.statements))
+        self.every = body.every
+        self.block(body.statements)
         body.end = self.end()
         return body
 
@@ -103,120 +102,125 @@ class _Reader:
         found = {}
         self.expect("(")
         while not self.takes(")"):
-            name = self.next().text
-            self.expect("in")
-            low = self.number()
-            self.expect("..")
-            found[name] = low, self.number()
+            name = self.next()
+            found[name] = self.range()
             self.takes(",")
         return found
 
-    def block(self) -> List[Statement]:
+    def range(self) -> Range:
+        self.expect("in")
+        low = int(self.next())
+        self.expect("..")
+        return low, int(self.next())
+
+    def block(self, into: List[Statement]) -> None:
         self.expect("{")
-        found = []
-        while self.word() != "}":
-            found.append(self.statement())
-        self.expect("}")
-        return found
+        while self.words[self.at] != "}":
+            into.append(self.statement())
+        self.at += 1
 
     def statement(self) -> Statement:
-        first = self.next()
-        made = self.made(first, first.text)
+        self.first = self.at
+        word = self.next()
+        made = READ.get(word, _Reader.assign)(self, word)
         made.end = self.end()
         return made
 
-    def made(self, first: Token, word: str) -> Statement:
-        at = first.line, first.start
-        if word == "cdreg":
-            register = self.next().text
-            self.next()
-            return SetRegister(*at, register, (self.expression(), self.expression(), self.expression()))
-        if word in SINGLE:
-            return self.cycle(first)
-        if word in TRANSFERS:
-            return self.transfer(first)
-        if word == "put" or word in CRATE_CALLS | LAM_CALLS:
-            plain = Plain(*at, word, self.next().text) if word in LAM_CALLS else Plain(*at, word, values=(self.expression(),))
-            self.takes("on", "off")
-            return plain
-        if word == "call":
-            return self.call(first)
-        if word == "if":
-            parts, body, has_else = self.condition(), self.block(), self.takes("else")
-            return If(*at, parts, body, self.block() if has_else else [], has_else)
-        if word == "lock":
-            return Lock(*at, self.expression(), self.block())
-        if word in ("for", "while"):
-            return self.loop(first)
+    def begun(self, it: Begun) -> Begun:
+        """A statement of which all is read but its blocks."""
+        it.line, it.start = self.lines[self.first], self.start(self.first)
+        it.expressions, it.names, self.expressions, self.names = self.expressions, self.names, [], []
+        self.every.append(it)
+        return it
+
+    def assign(self, word: str) -> Statement:
         self.expect("=")
-        return Assign(*at, word, self.expression())
+        return self.begun(Assign(word, self.expression()))
 
-    def cycle(self, first: Token) -> Cycle:
-        function, registers = self.number(), (self.next().text,)
-        into = self.next().text if self.takes("->") else None
+    def set_register(self, _: str) -> Statement:
+        register = self.next()
+        self.next()
+        return self.begun(SetRegister(register, (self.expression(), self.expression(), self.expression())))
+
+    def cycle(self, word: str) -> Statement:
+        function, registers = int(self.next()), (self.next(),)
+        into = self.next() if self.takes("->") else None
         value = self.expression() if self.takes("<-") else None
-        return Cycle(first.line, first.start, first.text == "cssa", function, registers, into, value)
+        return self.begun(Cycle(word == "cssa", function, registers, into, value))
 
-    def transfer(self, first: Token) -> Transfer:
-        function, registers = self.number(), [self.next().text]
-        if first.text == "cfmad":
-            registers.append(self.next().text)
+    def transfer(self, word: str) -> Statement:
+        function, registers = int(self.next()), [self.next()]
+        if word == "cfmad":
+            registers.append(self.next())
         if self.takes("table"):
             self.next()
         self.expect("max")
         most = self.expression()
         limit = self.expression() if self.takes("limit") else None
         self.expect("tally")
-        return Transfer(first.line, first.start, function, tuple(registers), most, limit, self.next().text)
+        return self.begun(Transfer(function, tuple(registers), most, limit, self.next()))
 
-    def call(self, first: Token) -> Plain:
-        name = self.next().text
+    def plain(self, word: str) -> Statement:
+        made = Plain(word, self.next()) if word in LAM_CALLS else Plain(word, "", (self.expression(),))
+        if not self.takes("on"):
+            self.takes("off")
+        return self.begun(made)
+
+    def call(self, word: str) -> Statement:
+        name, values = self.next(), []
         self.expect("(")
-        values = []
         while not self.takes(")"):
             values.append(self.expression())
             self.takes(",")
-        return Plain(first.line, first.start, "call", name, tuple(values))
+        return self.begun(Plain(word, name, tuple(values)))
 
-    def loop(self, first: Token) -> Loop:
-        loop: Loop
-        if first.text == "for":
-            name = self.next().text
-            self.expect("=")
-            loop = self.for_(first, name)
-        else:
-            parts = self.condition()
-            self.expect("turns")
-            turns = self.number()
-            self.expect("by")
-            loop = While(first.line, first.start, self.next().text, parts, turns)
+    def choice(self, _: str) -> Statement:
+        made = self.begun(If(self.condition()))
+        self.block(made.body)
+        made.has_else = self.takes("else")
+        if made.has_else:
+            self.block(made.other)
+        return made
+
+    def lock(self, _: str) -> Statement:
+        self.expression()
+        made = self.begun(Lock())
+        self.block(made.body)
+        return made
+
+    def loop(self, word: str) -> Statement:
+        made = self.begun(self.for_() if word == "for" else self.while_())
         if self.takes("keep"):
-            loop.keep = self.tokens[self.at - 1].start
-            loop.keeps.append(self.keep())
+            made.keep = self.start(self.at - 1)
+            made.keeps.append(self.keep())
             while self.takes(","):
-                loop.keeps.append(self.keep())
-        loop.block = self.tokens[self.at].start
-        loop.body = self.block()
-        loop.written = frozenset(filter(None, map(written_by, all_in(loop.body)))) - {loop.name}
-        return loop
+                made.keeps.append(self.keep())
+        made.block, inside = self.start(self.at), len(self.every)
+        self.block(made.body)
+        made.written = frozenset([it.writes for it in self.every[inside:] if it.writes]) - {made.name}
+        return made
 
-    def for_(self, first: Token, name: str) -> For:
-        is_plain = self.word().isdigit()
-        begin = self.expression()
+    def for_(self) -> Loop:
+        name = self.next()
+        self.expect("=")
+        first_at, first = self.at, self.expression()
         self.expect("to")
-        is_plain = is_plain and self.word().isdigit()
-        end = self.expression()
-        turns = max(0, end.value + 1 - begin.value) if is_plain and isinstance(begin, Number) and isinstance(end, Number) else None
-        return For(first.line, first.start, name, begin, end, turns, self.takes(EACH))
+        last_at, last = self.at, self.expression()
+        is_plain = self.words[first_at].isdigit() and self.words[last_at].isdigit()
+        turns = max(0, last.value + 1 - first.value) if is_plain and isinstance(first, Number) and isinstance(last, Number) else None
+        return For(name, first, last, turns, self.takes(EACH))
+
+    def while_(self) -> Loop:
+        parts = self.condition()
+        self.expect("turns")
+        turns = int(self.next())
+        self.expect("by")
+        return While(self.next(), parts, turns)
 
     def keep(self) -> Keep:
-        name = self.next()
-        self.expect("in")
-        low = self.next()
-        self.expect("..")
-        high = self.next()
-        places = (low.start, low.end), (high.start, high.end)
-        return Keep(name.text, (int(low.text), int(high.text)), *places, name.start, high.end)
+        at, name, kept = self.at, self.next(), self.range()
+        low, high = ((self.start(it), self.start(it) + len(self.words[it])) for it in (at + 2, at + 4))
+        return Keep(name, kept, low, high, self.start(at), high[1])
 
     def condition(self) -> Tuple[Part, ...]:
         parts = [self.part()]
@@ -225,38 +229,41 @@ class _Reader:
         return tuple(parts)
 
     def part(self) -> Part:
-        begin = self.tokens[self.at].start
+        begin = self.start(self.at)
         is_negated = self.takes("not")
-        if self.takes("q", "x"):
+        if self.takes("q") or self.takes("x"):
+            self.names += () if FLAGS in self.names else (FLAGS,)
             return Part(None, "", begin, self.end())
-        left, sign, right = self.expression(), self.next().text, self.expression()
+        left, sign, right = self.expression(), self.next(), self.expression()
         return Part((left, right), OPPOSITE[sign] if is_negated else sign, begin, self.end())
 
-    def expression(self) -> Expression:
-        found = self.term()
-        while self.word() in ("+", "-"):
-            found = self.operation(found, self.term)
+    def expression(self, bound: int = -1) -> Expression:
+        """An expression whose signs bind closer than so; without a bound one of the statement, that is no part of another one."""
+        at = self.at
+        word, start = self.words[at], self.begins[self.lines[at]] + self.places[at]
+        self.at = at + 1
+        found: Expression
+        if word == "(":
+            found = self.expression(0)
+            self.expect(")")
+            found = found._replace(start=start, end=self.end())
+        elif word.isdigit():
+            found = new(Number, (int(word), start, start + len(word)))
+        else:
+            self.names.append(word)
+            found = new(Name, (word, start, start + len(word)))
+        while BINDS.get(self.words[self.at], -1) > bound:
+            sign = self.next()
+            right = self.expression(BINDS[sign])
+            found = new(Operation, (sign, found, right, found.start, self.end()))
+        if bound < 0:
+            self.expressions.append(found)
         return found
 
-    def term(self) -> Expression:
-        found = self.factor()
-        while self.word() in ("*", "/", "%"):
-            found = self.operation(found, self.factor)
-        return found
 
-    def operation(self, left: Expression, read: Callable[[], Expression]) -> Operation:
-        sign = self.next().text
-        right = read()
-        return Operation(sign, left, right, left.start, self.end())
-
-    def factor(self) -> Expression:
-        token = self.next()
-        if token.text != "(":
-            place = token.start, token.end
-            return Number(int(token.text), *place) if token.text.isdigit() else Name(token.text, *place)
-        found = self.expression()
-        self.expect(")")
-        place = token.start, self.end()
-        if isinstance(found, Number):
-            return Number(found.value, *place)
-        return Name(found.name, *place) if isinstance(found, Name) else Operation(found.sign, found.left, found.right, *place)
+# What reads a statement, by its first word.
+READ: Dict[str, Callable[[_Reader, str], Statement]] = {
+    "cdreg": _Reader.set_register, "put": _Reader.plain, "call": _Reader.call, "if": _Reader.choice, "lock": _Reader.lock, "for": _Reader.loop,
+    "while": _Reader.loop, **dict.fromkeys(SINGLE, _Reader.cycle), **dict.fromkeys(TRANSFERS, _Reader.transfer),
+    **dict.fromkeys(CRATE_CALLS | LAM_CALLS, _Reader.plain),
+}

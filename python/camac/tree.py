@@ -5,12 +5,13 @@ import operator
 from typing import Callable, Dict, FrozenSet, Iterator, List, NamedTuple, Optional, Sequence, Tuple, Union
 
 from camac.language import Kind
-from camac.tokens import Token
 from camac.values import Range as Range
 
 OPERATIONS: Dict[str, Callable[[int, int], int]] = {
     "+": operator.add, "-": operator.sub, "*": operator.mul, "/": operator.floordiv, "%": operator.mod,
 }
+# The flags q and x, which each cycle sets, are one name. No variable has it.
+FLAGS = "q"
 
 
 class Number(NamedTuple):
@@ -59,94 +60,92 @@ class Keep(NamedTuple):
 
 
 class Statement:
-    """A statement: the line and the place of its first token, where its last one ends, and its expressions, without those of its blocks."""
+    """A statement: the line and the place of its first token, where its last one ends, its expressions, without those of its blocks, the names in them and
+    in its conditions, the variable that it writes itself, and its blocks."""
 
-    def __init__(self, line: int, start: int, *expressions: Optional[Expression]) -> None:
-        self.line, self.start, self.end = line, start, 0
-        self.expressions = [it for it in expressions if it]
+    line: int
+    start: int
+    end: int
+    expressions: List[Expression]
+    names: List[str]
+    writes: Optional[str] = None
+    blocks: Sequence[List["Statement"]] = ()
 
 
 class Assign(Statement):
-    def __init__(self, line: int, start: int, name: str, value: Expression) -> None:
-        super().__init__(line, start, value)
-        self.name, self.value = name, value
+    def __init__(self, name: str, value: Expression) -> None:
+        self.name, self.value, self.writes = name, value, name
 
 
 class SetRegister(Statement):
     """`cdreg`: crate, station and sub-address."""
 
-    def __init__(self, line: int, start: int, register: str, address: Tuple[Expression, ...]) -> None:
-        super().__init__(line, start, *address)
+    def __init__(self, register: str, address: Tuple[Expression, ...]) -> None:
         self.register, self.address = register, address
 
 
 class Cycle(Statement):
     """`cfsa` and `cssa`, which has short words, with one register: what is read into a variable, or the value that is written."""
 
-    def __init__(
-        self, line: int, start: int, is_short: bool, function: int, registers: Tuple[str, ...], into: Optional[str], value: Optional[Expression]
-    ) -> None:
-        super().__init__(line, start, value)
-        self.is_short, self.function, self.registers, self.into, self.value = is_short, function, registers, into, value
+    def __init__(self, is_short: bool, function: int, registers: Tuple[str, ...], into: Optional[str], value: Optional[Expression]) -> None:
+        self.is_short, self.function, self.registers, self.into, self.value, self.writes = is_short, function, registers, into, value, into
 
 
 class Transfer(Statement):
     """`cfmad`, which has two registers, `cfubc`, and `cfubr`, which has a limit."""
 
-    def __init__(
-        self, line: int, start: int, function: int, registers: Tuple[str, ...], most: Expression, limit: Optional[Expression], tally: str
-    ) -> None:
-        super().__init__(line, start, most, limit)
-        self.function, self.registers, self.most, self.limit, self.tally = function, registers, most, limit, tally
+    def __init__(self, function: int, registers: Tuple[str, ...], most: Expression, limit: Optional[Expression], tally: str) -> None:
+        self.function, self.registers, self.most, self.limit, self.tally, self.writes = function, registers, most, limit, tally, tally
 
 
 class Plain(Statement):
     """A statement that changes nothing that is known: `put`, the calls of a crate, of a LAM, and of a procedure. `name` is that of the LAM or the
     procedure."""
 
-    def __init__(self, line: int, start: int, word: str, name: str = "", values: Tuple[Expression, ...] = ()) -> None:
-        super().__init__(line, start, *values)
+    def __init__(self, word: str, name: str = "", values: Tuple[Expression, ...] = ()) -> None:
         self.word, self.name, self.values = word, name, values
 
 
 class If(Statement):
     """An `if`: `other` is the block of its `else`, which may be there without a statement."""
 
-    def __init__(self, line: int, start: int, parts: Tuple[Part, ...], body: List[Statement], other: List[Statement], has_else: bool) -> None:
-        super().__init__(line, start, *_sides(parts))
-        self.parts, self.body, self.other, self.has_else = parts, body, other, has_else
+    def __init__(self, parts: Tuple[Part, ...]) -> None:
+        self.parts, self.has_else = parts, False
+        self.body: List[Statement] = []
+        self.other: List[Statement] = []
+        self.blocks = (self.body, self.other)
 
 
 class Lock(Statement):
-    def __init__(self, line: int, start: int, crate: Expression, body: List[Statement]) -> None:
-        super().__init__(line, start, crate)
-        self.body = body
+    def __init__(self) -> None:
+        self.body: List[Statement] = []
+        self.blocks = (self.body,)
 
 
 class Loop(Statement):
     """A loop: its own variable (that of a `for`, the measure of a `while`), where the word `keep` is and what is kept, where its block begins,
     and the other variables that its block writes."""
 
-    def __init__(self, line: int, start: int, name: str, *expressions: Expression) -> None:
-        super().__init__(line, start, *expressions)
+    def __init__(self, name: str) -> None:
         self.name = name
         self.keep = self.block = 0
         self.keeps: List[Keep] = []
         self.body: List[Statement] = []
+        self.blocks = (self.body,)
         self.written: FrozenSet[str] = frozenset()
 
 
 class For(Loop):
     """A `for`, and its turns if both ends are single numbers. With `each` they are, and it keeps nothing."""
 
-    def __init__(self, line: int, start: int, name: str, first: Expression, last: Expression, turns: Optional[int], is_each: bool) -> None:
-        super().__init__(line, start, name, first, last)
-        self.first, self.last, self.turns, self.is_each = first, last, turns, is_each
+    def __init__(self, name: str, first: Expression, last: Expression, turns: Optional[int], is_each: bool) -> None:
+        super().__init__(name)
+        self.first, self.last, self.turns, self.is_each, self.writes = first, last, turns, is_each, name
 
 
 class While(Loop):
-    def __init__(self, line: int, start: int, name: str, parts: Tuple[Part, ...], turns: int) -> None:
-        super().__init__(line, start, name, *_sides(parts))
+    def __init__(self, name: str, parts: Tuple[Part, ...], turns: int) -> None:
+        super().__init__(name)
         self.parts, self.turns = parts, turns
 
 
@@ -163,40 +162,20 @@ class Body:
 
 
 class Script:
-    """The services and procedures in the order of the text, its tokens, and those that declare a name of all of it, each with what it stands for."""
+    """The services and procedures in the order of the text, its tokens, and what declares a name of all of it: the name, its line, and what it stands for."""
 
-    def __init__(self, tokens: List[Token]) -> None:
-        self.tokens = tokens
+    def __init__(self, words: List[str]) -> None:
+        self.words = words
         self.bodies: List[Body] = []
-        self.declared: List[Tuple[Token, Kind]] = []
-
-
-def blocks_of(it: Statement) -> Sequence[List[Statement]]:
-    """The blocks of a statement."""
-    if isinstance(it, If):
-        return it.body, it.other
-    return (it.body,) if isinstance(it, (Lock, Loop)) else ()
+        self.declared: List[Tuple[str, int, Kind]] = []
 
 
 def all_in(statements: Sequence[Statement]) -> Iterator[Statement]:
     """All statements of a block, at any depth, in the order of the text."""
     for it in statements:
         yield it
-        for block in blocks_of(it):
+        for block in it.blocks:
             yield from all_in(block)
-
-
-def written_by(it: Statement) -> Optional[str]:
-    """The variable that a statement itself writes."""
-    if isinstance(it, (Assign, For)):
-        return it.name
-    if isinstance(it, Cycle):
-        return it.into
-    return it.tally if isinstance(it, Transfer) else None
-
-
-def _sides(parts: Tuple[Part, ...]) -> List[Expression]:
-    return [side for part in parts if part.sides for side in part.sides]
 
 
 def parts_of(it: Expression) -> Iterator[Expression]:

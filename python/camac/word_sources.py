@@ -15,7 +15,6 @@ from camac.texts import script_text
 from camac.values import Plan, Service
 from camac.tree import (
     OPERATIONS, Assign, Body, Cycle, Expression, For, If, Lock, Loop, Name, Number, Plain, Script, SetRegister, Statement, Transfer, all_in,
-    written_by,
 )
 from camac.words import SPECTRUM, VALUE, WHOLE, Field, Words
 
@@ -68,9 +67,8 @@ class _State:
     def forget(self, statements: Sequence[Statement]) -> None:
         """Forgets what these statements may change."""
         for statement in all_in(statements):
-            name = written_by(statement)
-            if name is not None:
-                self.variables[name] = None
+            if statement.writes is not None:
+                self.variables[statement.writes] = None
             if isinstance(statement, SetRegister):
                 self.registers.pop(statement.register, None)
 

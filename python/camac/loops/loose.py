@@ -8,7 +8,7 @@ from camac.loops.proposals import put_before_block
 from camac.loops.search import least_ranges
 from camac.printed import read_headings
 from camac.program import accepts, verdict
-from camac.tree import Body, For, If, Keep, Loop, Transfer, While, all_in, names_in
+from camac.tree import Body, For, If, Keep, Loop, Transfer, While, all_in
 from camac.warn.codes import Code, Warned
 
 Bounds = Tuple[int, int]
@@ -21,7 +21,7 @@ def wide_keeps(plan: File, text: bytes, bodies: Sequence[Body], program: Optiona
     if not loops:
         return
     unused = {keep.start for loop in loops for keep in loop.keeps if accepts(plan, edited(text, [_without(text, loop, keep)]), program)}
-    least = least_ranges(plan, text, {keep.start for loop in loops for keep in loop.keeps} - unused, program)
+    least = least_ranges(plan, text, bodies, {keep.start for loop in loops for keep in loop.keeps} - unused, program)
     for loop in loops:
         for keep in loop.keeps:
             line = loop.line + text.count(b"\n", loop.start, keep.start)
@@ -65,7 +65,7 @@ def dear_loops(plan: File, text: bytes, bodies: Sequence[Body], program: Optiona
 def _differs(loop: For) -> bool:
     """Whether the turns of a loop between two numbers may cost different much."""
     inside = [it for it in all_in(loop.body) if isinstance(it, (If, For, While, Transfer))] if loop.turns and not loop.is_each else []
-    return any(loop.name in names_in(one) for it in inside for one in it.expressions)
+    return any(loop.name in it.names for it in inside)
 
 
 def _bounds(plan: File, text: bytes, program: Optional[File]) -> List[Bounds]:

@@ -3,7 +3,7 @@ be: the checker judges what it finds."""
 import bisect
 import re
 from collections import Counter
-from typing import AbstractSet, Callable, Container, Dict, Iterable, List, Optional, Set, Tuple, Union
+from typing import AbstractSet, Callable, Container, Dict, Iterable, List, Optional, Sequence, Set, Tuple, Union
 
 from camac.drive import File, Refused
 from camac.edits import edited
@@ -16,7 +16,7 @@ from camac.printed import read_headings
 from camac.program import verdict
 from camac.reader import read_script
 from camac.texts import GREATEST_TEXT
-from camac.tree import Assign, Body, For, Loop, Number, Range, Statement, blocks_of, parts_of
+from camac.tree import Assign, Body, For, Loop, Number, Range, Statement, parts_of
 
 # The most calls of the checker; the last ones are for headings.
 MOST_CALLS, LAST_CALLS = 200, 8
@@ -45,7 +45,7 @@ def propose(plan: File, script: bytes, program: Optional[File] = None, keeps_onl
         raise refusal
     if is_long or refusal and refusal.code[0] != "E":
         return Proposals((), Remaining(refusal.code, refusal.line, refusal.rule) if refusal else None, 1)
-    search = _Search(plan, script, program, keeps_only)
+    search = _Search(plan, script, read_script(script).bodies, program, keeps_only)
     remaining = search.run(refusal is not None)
     proposals = sorted([*search.found.proposals(), *search.headings], key=lambda it: (it.line, it.edits))
     return Proposals(tuple(proposals), remaining, len(search.trials.told) + 1)
@@ -63,9 +63,9 @@ def write_keeps(plan: File, script: str, program: Optional[File] = None) -> List
     return found
 
 
-def least_ranges(plan: File, script: bytes, kept: AbstractSet[int], program: Optional[File] = None) -> Dict[int, Range]:
+def least_ranges(plan: File, script: bytes, bodies: Sequence[Body], kept: AbstractSet[int], program: Optional[File] = None) -> Dict[int, Range]:
     """The ranges of an accepted script, of those that begin at these places, that are accepted in all, too, and are less; nothing if there is none."""
-    search = _Search(plan, script, program, keeps_only=True)
+    search = _Search(plan, script, bodies, program, keeps_only=True)
     keeps = {(loop, it.name): it for loop, _ in search.given for it in loop.keeps if it.start in kept}
     search.found.kept = dict.fromkeys(keeps, NOTHING)
     stopped = search.stopped(BOUNDS) if keeps else None
@@ -80,9 +80,8 @@ def least_ranges(plan: File, script: bytes, kept: AbstractSet[int], program: Opt
 class _Search:
     """A search for what the loops of one script need."""
 
-    def __init__(self, plan: File, text: bytes, program: Optional[File], keeps_only: bool = False) -> None:
-        self.text, self.keeps_only = text, keeps_only
-        self.bodies = read_script(text).bodies
+    def __init__(self, plan: File, text: bytes, bodies: Sequence[Body], program: Optional[File], keeps_only: bool = False) -> None:
+        self.text, self.bodies, self.keeps_only = text, bodies, keeps_only
         self.trials = Trials(plan, text, self.bodies, program)
         self.changes = Changes(text)
         loops = [it for body in self.bodies for it in body.every if isinstance(it, Loop)]
@@ -234,7 +233,7 @@ def _judged(statements: Iterable[Statement], chosen: Container[Statement]) -> Tu
     """What is judged where a block is judged once, and how much of that in an `each`: a turn counts one, and each statement in it."""
     judged = in_each = 0
     for it in statements:
-        blocks = [_judged(block, chosen) for block in blocks_of(it)]
+        blocks = [_judged(block, chosen) for block in it.blocks]
         inside, deeper = sum(one for one, _ in blocks), sum(one for _, one in blocks)
         if isinstance(it, For) and (it.is_each or it in chosen):
             inside = deeper = (it.turns or 0) * (1 + inside)

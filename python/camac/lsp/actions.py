@@ -7,8 +7,9 @@ from camac.judge import OF_HEADINGS
 from camac.loops.search import propose
 from camac.lsp.refusals import Placed, refusals
 from camac.lsp.workspace import Judged
+from camac.names import NAMES
 from camac.printed import NEAR, read_allowed, read_headings
-from camac.tokens import NAMES, tokens_of
+from camac.tokens import tokens_of
 from camac.warn import Code, Warned
 
 MOST_TURNS = 65_535

@@ -9,7 +9,7 @@ from camac.texts import TextFile
 from camac.tree import Loop, Plain, Script
 from camac.values import Harm, Service, Unkept
 from camac.warn.codes import Code as Code, Warned as Warned
-from camac.warn.silent import Silent, costs_with_arms
+from camac.warn.silent import Silent, rows_with_arms
 
 # What is said of a service, whose name is first, and of the one that clears or hides its look-at-me.
 UNKEPT = {
@@ -39,12 +39,12 @@ def look_at(plan: File, text: bytes, told: str, program: Optional[File] = None) 
     """What `look` returns of an accepted script that is given as its text, with what `tell`, or `check`, prints of it."""
     parsed = read_script(text)
     services = read_services(told)
-    bodies = costs_with_arms(plan, text, parsed, told, program)
+    rows = rows_with_arms(plan, text, parsed, told, program)
     if not services:
         return [], [Warned(1, Code.NO_SERVICE, "this script has no service, so a run of it makes no cycle")]
-    silent = Silent(plan, text, parsed, bodies, program).found()
+    silent = Silent(plan, text, parsed, rows, program).found()
     found = [*silent, *_unkept(parsed, read_unkept(told)), *_held_up(parsed, services), *_loose(plan, text, parsed, program)]
-    return services, sorted(found, key=lambda it: (it.line, it.code.value))
+    return services, sorted(found, key=lambda it: (it.line, it.code._value_))
 
 
 def looks_for_all(program: Optional[File] = None) -> bool:

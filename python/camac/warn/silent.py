@@ -3,21 +3,21 @@ import re
 from collections import Counter
 from typing import Dict, Iterable, Iterator, List, NamedTuple, Optional, Sequence, Set, Tuple
 
-from camac.bodies import parse_costs
 from camac.drive import File
 from camac.edits import Edit, edited
 from camac.language import PARAMETER, REGISTER, Kind
-from camac.printed import costs_in, read_known
+from camac.printed import CYCLES, PLACE_OF, TIMES, WORD_OF, Words, read_known, read_rows
 from camac.program import verdict
 from camac.subcommands import plan as ask_plan
 from camac.texts import GREATEST_TEXT, plan_text
+from camac.tokens import tokens_of
 from camac.tree import (
-    OPERATIONS, Assign, Body, Cycle, Expression, For, If, Loop, Name, Number, Operation, Range, Script, SetRegister, Statement, Transfer, all_in,
-    names_in, written_by,
+    FLAGS, OPERATIONS, Assign, Body, Cycle, Expression, For, If, Loop, Name, Number, Operation, Range, Script, SetRegister, Statement, Transfer, all_in,
+    names_in,
 )
-from camac.values import Address, Body as Costs, range_of
+from camac.values import range_of
 from camac.warn.codes import Code, Warned
-from camac.warn.flow import FLAGS, Flow, Some, is_put
+from camac.warn.flow import OPEN, Flow, is_put
 
 # A number with a 0 before it, for which the tokens are looked through.
 ZERO = re.compile(rb"\b0\d")
@@ -27,15 +27,12 @@ READ_AND_CLEAR = 2
 MOST_ASKED = 50
 
 
-def costs_with_arms(plan: File, text: bytes, script: Script, told: str, program: Optional[File] = None) -> List[Costs]:
-    """The costs of an accepted script with an `else` for each `if`, so that each arm has a row. No bound and no line changes. `told` is what
+def rows_with_arms(plan: File, text: bytes, script: Script, told: str, program: Optional[File] = None) -> List[List[Words]]:
+    """The rows of an accepted script with an `else` for each `if`, so that each arm has one. No bound and no line changes. `told` is what
     `camac tell` prints of it."""
-    costs = costs_in(told)
     arms = [Edit(it.end, it.end, " else { }") for body in script.bodies for it in body.every if isinstance(it, If) and not it.has_else]
-    longer = edited(text, arms)
-    if costs and arms and len(longer) <= GREATEST_TEXT:
-        costs = verdict("costs", plan, longer, program).text
-    return parse_costs(costs)
+    longer = edited(text, arms) if arms and "\nline " in told else b""
+    return read_rows(verdict("costs", plan, longer, program).text if longer and len(longer) <= GREATEST_TEXT else told)
 
 
 class Guard(NamedTuple):
@@ -49,16 +46,16 @@ class Guard(NamedTuple):
 
 
 class Silent:
-    """An accepted script on a plan, with what `costs_with_arms` says of it. `left` is how often the checker may still be asked."""
+    """An accepted script on a plan, with its `rows_with_arms`. `left` is how often the checker may still be asked."""
 
-    def __init__(self, plan: File, text: bytes, script: Script, costs: Sequence[Costs], program: Optional[File] = None) -> None:
-        self.plan, self.text, self.script, self.costs, self.program, self.left = plan, text, script, costs, program, MOST_ASKED
+    def __init__(self, plan: File, text: bytes, script: Script, rows: Sequence[Sequence[Words]], program: Optional[File] = None) -> None:
+        self.plan, self.text, self.script, self.rows, self.program, self.left = plan, text, script, rows, program, MOST_ASKED
 
     def found(self) -> Iterator[Warned]:
         flows: Dict[str, Flow] = {}
-        for body, costs in zip(self.script.bodies, self.costs):
-            flow = flows[body.name] = Flow(body, costs.rows, flows)
-            numbers = {it: self.number(it, flow) for it in filter(is_put, flow.value) if flow.row[it].times}
+        for body, rows in zip(self.script.bodies, self.rows):
+            flow = flows[body.name] = Flow(body, rows, flows)
+            numbers = {it: self.number(it, flow) for it in filter(is_put, flow.value) if it in flow.made}
             yield from (Warned(it.line, Code.ONE_NUMBER, f"this word is always {number}") for it, number in numbers.items() if number is not None)
             yield from self.of_reads(flow)
             yield from _of_unset((it, name) for it, name in flow.unset if numbers.get(it) is None)
@@ -70,12 +67,12 @@ class Silent:
 
     def number(self, it: Statement, flow: Flow) -> Optional[int]:
         """The one number that a `put` of a variable puts; None if there are more."""
-        (put,), value = it.expressions, flow.value[it]
-        if names_in(put) and value is Some.OPEN and self.left:
+        value = flow.value[it] if it.names else None
+        if value is OPEN and self.left:
             self.left -= 1
-            low, high = self.range(it, put)
+            low, high = self.range(it, it.expressions[0])
             return low if low == high else None
-        return value if names_in(put) and isinstance(value, int) else None
+        return value if isinstance(value, int) else None
 
     def range(self, it: Statement, of: Expression) -> Range:
         """The range of an expression before a statement, by what the checker knows there of its names."""
@@ -85,29 +82,29 @@ class Silent:
 
     def of_reads(self, flow: Flow) -> Iterator[Warned]:
         """Words that are read and never used."""
-        for it, row in flow.row.items():
-            is_dropped = isinstance(it, Cycle) and it.into and row.times and it not in flow.used
-            if isinstance(it, Cycle) and is_dropped and it.function != READ_AND_CLEAR and not self.clears(it, flow):
+        for it in flow.row:
+            is_dropped = it.writes and it not in flow.used and it in flow.made
+            if is_dropped and isinstance(it, Cycle) and it.function != READ_AND_CLEAR and not self.clears(it, flow):
                 yield Warned(it.line, Code.DROPPED, f"the word in `{it.into}` is read and never used")
 
     def clears(self, it: Cycle, flow: Flow) -> bool:
         """Whether the plan says that a cycle clears the look-at-me of its module."""
         if b"clears" not in plan_text(self.plan):
             return False
-        at = flow.row[it].addresses()[0]
-        declared = ask_plan(self.plan, self.program).declaration(at.crate[0], at.station[0], at.sub_address[0], it.function)
+        at = [range_of(word)[0] for word in flow.row[it][PLACE_OF + 1 :]]
+        declared = ask_plan(self.plan, self.program).declaration(at[0], at[1], at[2], it.function)
         return declared is not None and declared.clears
 
     def of_guards(self, flow: Flow) -> Iterator[Warned]:
         """Guards of sums that leave something out after many turns."""
-        guards = {it.adds: it for one in flow.row if isinstance(one, If) for it in [guard_of(one)] if it and flow.row[it.adds].times}
+        guards = {it.adds: it for one in flow.row if isinstance(one, If) for it in [guard_of(one)] if it and it.adds in flow.made}
         for adds, (it, _, total, step, most) in guards.items() if len(guards) <= MOST_ASKED else ():
             for loop in (one for one in flow.row if isinstance(one, Loop) and one.start < it.start < one.end):
                 # The outermost loop in which nothing else sets the sum.
-                setting = [one for one in all_in(loop.body) if written_by(one) == adds.name]
+                setting = [one for one in all_in(loop.body) if one.writes == adds.name]
                 if all(one in guards for one in setting):
-                    steps = [(self.range(one, guards[one].step)[1], flow.row[one].times) for one in setting if isinstance(one, Assign)]
-                    added = [step_of * times // flow.row[loop].times for step_of, times in steps]
+                    steps = [(self.range(one, guards[one].step)[1], int(flow.row[one][TIMES])) for one in setting if isinstance(one, Assign)]
+                    added = [step_of * times // int(flow.row[loop][TIMES]) for step_of, times in steps]
                     after, bound = self.range(loop, total)[1] + sum(added), most + self.range(adds, step)[1]
                     if after > bound:
                         text = f"after all turns `{total.name}` may be {after}, and this condition lets it be {bound}: the rest is left out"
@@ -116,32 +113,32 @@ class Silent:
 
     def of_tokens(self) -> Iterator[Warned]:
         """Names of the script that are never used, and numbers with a 0 before them."""
-        times = Counter([it.text for it in self.script.tokens])
-        yield from (_unused(it.line, kind, it.text) for it, kind in self.script.declared if times[it.text] == 1)
-        for it in self.script.tokens if ZERO.search(self.text) else ():
+        times = Counter(self.script.words)
+        yield from (_unused(line, kind, name) for name, line, kind in self.script.declared if times[name] == 1)
+        for it in tokens_of(self.text) if ZERO.search(self.text) else ():
             if it.text[:1] == "0" and set(it.text) <= set("01234567") and int(it.text, 8) != int(it.text):
                 yield Warned(it.line, Code.LEADING_ZERO, f"`{it.text}` is {int(it.text)} here, not {int(it.text, 8)}: numbers are decimal")
 
 
 def _unused(line: int, kind: Kind, name: str) -> Warned:
-    return Warned(line, Code.UNUSED_NAME, f"the {kind.value} `{name}` is never used")
+    return Warned(line, Code.UNUSED_NAME, f"the {kind._value_} `{name}` is never used")
 
 
 def _of_rows(flow: Flow) -> Iterator[Warned]:
     """Blocks that are never reached, and scans without a cycle."""
-    for it, row in flow.row.items():
-        if row.word == "cfmad" and row.times and not row.each.cycles:
-            yield Warned(row.line, Code.EMPTY_SCAN, "this scan makes no cycle: its first address is after its last one, or `max` is 0")
-        if not isinstance(it, (If, Loop)) or not row.times:
-            continue
-        first = flow.row[it.body[0]] if it.body else row
-        if isinstance(it, For) and not first.times:
-            yield Warned(first.line, Code.UNREACHED, f"`{first.word}` is never reached")
-        elif not first.times:
-            yield Warned(it.line, Code.DECIDED, f"this condition is always false: `{first.word}` on line {first.line} is never reached")
-        elif isinstance(it, If) and it in flow.other and not flow.other[it].times:
-            first = flow.row[it.other[0]] if it.other else row
-            rest = f"`{first.word}` on line {first.line} is never reached" if it.other else "its block is always made"
+    for it, row in flow.made.items():
+        first = it.blocks[0][0] if it.blocks and it.blocks[0] else it
+        if row[WORD_OF] == "cfmad" and row[CYCLES] == "0":
+            yield Warned(it.line, Code.EMPTY_SCAN, "this scan makes no cycle: its first address is after its last one, or `max` is 0")
+        elif first not in flow.made and isinstance(it, For):
+            yield Warned(first.line, Code.UNREACHED, f"`{flow.row[first][WORD_OF]}` is never reached")
+        elif first not in flow.made:
+            yield Warned(it.line, Code.DECIDED, f"this condition is always false: `{flow.row[first][WORD_OF]}` on line {first.line} is never reached")
+        elif it in flow.always:
+            rest = "its block is always made"
+            if it.blocks[1]:
+                first = it.blocks[1][0]
+                rest = f"`{flow.row[first][WORD_OF]}` on line {first.line} is never reached"
             yield Warned(it.line, Code.DECIDED, f"this condition is always true: {rest}")
 
 
@@ -160,24 +157,24 @@ def _of_registers(flow: Flow) -> Iterator[Warned]:
     """Registers by which no cycle is made, and those by which the same cycle is made as by another one."""
     made = {register for it in flow.row if isinstance(it, (Cycle, Transfer)) for register in it.registers}
     set_by: Dict[str, SetRegister] = {}
-    first: Dict[Tuple[Address, int], SetRegister] = {}
+    first: Dict[Tuple[str, int], SetRegister] = {}
     for it, row in flow.row.items():
         if isinstance(it, SetRegister):
             if it.register not in made and it.register not in set_by:
                 yield _unused(it.line, REGISTER, it.register)
             set_by[it.register] = it
-        elif isinstance(it, (Cycle, Transfer)) and len(it.registers) == 1 and row.times:
-            (at,), mine = row.addresses(), set_by[it.registers[0]]
+        elif isinstance(it, (Cycle, Transfer)) and len(it.registers) == 1 and it in flow.made:
+            mine, at = set_by[it.registers[0]], " ".join(row[PLACE_OF:])
             other = first.get((at, it.function), mine)
             if other.register == mine.register or set_by[other.register] is not other:
                 first[at, it.function] = mine
-            elif all(low == high for low, high in at):
+            elif ".." not in at:
                 text = f"`{mine.register}` has the address of `{other.register}` (line {other.line}), and F{it.function} is sent by both"
                 yield Warned(mine.line, Code.TWINS, text)
 
 
 def _of_parameters(body: Body) -> Iterator[Warned]:
-    named = {*map(written_by, body.every), *(name for it in body.every for one in it.expressions for name in names_in(one))}
+    named = {*(it.writes for it in body.every), *(name for it in body.every for name in it.names)}
     return (_unused(body.line, PARAMETER, it) for it in body.variables if it not in named)
 
 
