@@ -170,7 +170,10 @@ service reg within 50 cycles event 0 words {
 }
 """
 NESTED = "cdlam charge 1 1 1 0\nservice charge within 200 cycles event 0 words {\n  lock 1 {\n    lock 2 { cclc charge }\n  }\n}\n"
-MISUSE_IN_CPP = """1 taken, code 2
+MISUSE_IN_CPP = """2 service_ahead needs a demand that is wanted
+13 and 5 before a demand
+5 a number out of its range
+1 taken, code 2
 2 next needs answers that begin as CAMAC_ANSWER
 2 wants needs a session that was not moved from
 2 explain_at needs a line and a column from 1 on

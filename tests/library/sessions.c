@@ -97,6 +97,27 @@ static void lists(camac_session *s) {
     EXPECT(CAMAC_OK, camac_rewind(s));
 }
 
+/* What the services begin with: by what numbers and with what room it is told. */
+static void firsts(const camac_session *s) {
+    camac_want wants[CAMAC_AHEAD] = {CAMAC_WANT};
+    const uint32_t number = (uint32_t)camac_services(s);
+    size_t all, count = 9;
+    EXPECT(CAMAC_OK, camac_service_ahead(s, number, wants, CAMAC_AHEAD, &all));
+    for (size_t room = 0; room <= all; room++) {
+        EXPECT(CAMAC_OK, camac_service_ahead(s, number, room ? wants : NULL, room, &count));
+        if (count != room || (room && (wants[room - 1].size != sizeof *wants || wants[room - 1].kind == CAMAC_DEMAND))) fail("%zu of %zu are told", count, room);
+    }
+    for (uint32_t i = 0; i < 2; i++) {
+        count = 9;
+        EXPECT(CAMAC_RANGE, camac_service_ahead(s, i ? number + 1 : 0, wants, 1, &count));
+        if (count) fail("service %u begins", (unsigned)i);
+    }
+    wants[0].size--;
+    EXPECT(CAMAC_MISUSE, camac_service_ahead(s, 1, wants, 1, NULL));
+    EXPECT(CAMAC_MISUSE, camac_service_ahead(s, 1, NULL, 1, NULL));
+    EXPECT(CAMAC_MISUSE, camac_service_ahead(NULL, 1, NULL, 0, NULL));
+}
+
 /* Blocks: which are no modes, and what is no block. */
 static void blocks(camac_session *s) {
     camac_progress did;
@@ -202,6 +223,7 @@ int main(int count, char **words) {
     EXPECT(CAMAC_OK, camac_open(&s, plan.bytes, plan.size, script.bytes, script.size, verdict, sizeof verdict - 1, &size));
     handed_in(&s);
     lists(&s);
+    firsts(&s);
     blocks(&s);
     services(&s, verdict);
     stepped(&s);

@@ -1,5 +1,5 @@
 // sessions.cpp: what camac::response tells; how many operations are ahead of a script played in lists, up to its second event and then to an overrun,
-// and its events; what a misused call says.
+// and its events; how many a service begins with; what a misused call says.
 //
 //     sessions PLAN SCRIPT OF_LISTS
 #include "common.hpp"
@@ -33,7 +33,10 @@ int main(int count, char **words) {
     } catch (const camac::overrun &why) {
         std::cout << "overrun " << why.crate << " wait " << why.wait << (its.ahead().empty() ? "\n" : "?\n");
     }
+    misused([&] { static_cast<void>(its.service_ahead(1)); });
     its.rewind();
+    std::cout << its.service_ahead(1).size() << " and " << its.service_ahead(1, 5).size() << " before a demand\n";
+    misused([&] { static_cast<void>(its.service_ahead(2)); });
     const camac_answer nothing = CAMAC_ANSWER, without = {};
     const camac::progress_list did = its.next(std::vector<camac_answer>{nothing, without});
     std::cout << did.size() << " taken, code " << did.code << "\n";
