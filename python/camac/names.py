@@ -48,8 +48,7 @@ class Names:
         self.mentions: List[Mention] = []
         self.blocks: List[Block] = []
         self.symbols: Dict[Tuple[str, str, int], Symbol] = {}
-        self.depth, self.is_inside, self.is_declaration, self.expected = 0, False, False, NO_NAMES
-        behind_to = 0
+        self.depth, self.is_inside, self.is_declaration, self.expected, behind_to = 0, False, False, NO_NAMES, 0
         for it in NAMES.finditer(text.decode("latin-1")):
             word = it[1]
             if word in WORDS:

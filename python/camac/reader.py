@@ -22,12 +22,8 @@ def read_script(text: bytes) -> Script:
 
 def read_headings(text: bytes) -> List[Body]:
     """The services and procedures of a script without their statements."""
-    reader, found = _Reader(text), []
-    for at, word in enumerate(reader.words):
-        if word in BODIES:
-            reader.at = at
-            found.append(reader.heading())
-    return found
+    reader = _Reader(text)
+    return [reader.heading(at) for at, word in enumerate(reader.words) if word in BODIES]
 
 
 class _Reader:
@@ -79,16 +75,18 @@ class _Reader:
                 self.variables[self.next()] = (0, 0)
         return script
 
-    def heading(self) -> Body:
-        line, start, is_service, name = self.lines[self.at], self.starts[self.at], self.next() == "service", self.next()
-        body = Body(name, is_service, line, start, dict(self.variables) if is_service else self.parameters())
-        begin, self.at = self.at, self.words.index("{", self.at)
-        places = ((it, self.starts[at]) for at, it in enumerate(self.words[begin : self.at], begin) if it.isdigit())
-        body.numbers += (Number(int(it), start, start + len(it)) for it, start in places)
+    def heading(self, at: int) -> Body:
+        is_service, self.at = self.words[at] == "service", at + 2
+        variables = dict(self.variables) if is_service else self.parameters()
+        body = Body(self.words[at + 1], is_service, self.lines[at], self.starts[at], variables)
+        while self.words[self.at] != "{":
+            word = self.next()
+            if word.isdigit():
+                body.numbers.append(Number(int(word), self.starts[self.at - 1], self.end()))
         return body
 
     def body(self) -> Body:
-        body = self.heading()
+        body = self.heading(self.at)
         self.every = body.every
         self.block(body.statements)
         body.end = self.end()
@@ -145,16 +143,15 @@ class _Reader:
         return self.begun(Cycle(word == "cssa", function, registers, into, value))
 
     def transfer(self, word: str) -> Statement:
-        function, registers = int(self.next()), [self.next()]
-        if word == "cfmad":
-            registers.append(self.next())
+        function = int(self.next())
+        registers = (self.next(), self.next()) if word == "cfmad" else (self.next(),)
         if self.takes("table"):
             self.next()
         self.expect("max")
         most = self.expression()
         limit = self.expression() if self.takes("limit") else None
         self.expect("tally")
-        return self.begun(Transfer(function, tuple(registers), most, limit, self.next()))
+        return self.begun(Transfer(function, registers, most, limit, self.next()))
 
     def plain(self, word: str) -> Statement:
         made = Plain(word, self.next()) if word in LAM_CALLS else Plain(word, "", (self.expression(),))
@@ -188,9 +185,9 @@ class _Reader:
         made = self.begun(self.for_() if word == "for" else self.while_())
         if self.takes("keep"):
             made.keep = self.starts[self.at - 1]
+        while self.words[self.at] != "{":
             made.keeps.append(self.keep())
-            while self.takes(","):
-                made.keeps.append(self.keep())
+            self.takes(",")
         made.block, inside = self.starts[self.at], len(self.every)
         self.block(made.body)
         made.written = frozenset([it.writes for it in self.every[inside:] if it.writes]) - {made.name}

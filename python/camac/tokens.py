@@ -29,10 +29,8 @@ def tokens_of(text: bytes, start: int = 0, end: Optional[int] = None) -> List[To
 
 def cut(text: bytes) -> Tuple[List[str], List[int], List[int]]:
     """The tokens of a text, where each begins, and its line. A byte that begins no token is one here."""
-    words: List[str] = []
-    starts: List[int] = []
-    lines: List[int] = []
-    at, line = 0, 1
+    found: Tuple[List[str], List[int], List[int]] = [], [], []
+    (words, starts, lines), at, line = found, 0, 1
     # Bytes are signs of the same number, so that places are those in the bytes. In tabs there is no token.
     for piece in COMMENT.sub(lambda it: "\t" * len(it[0]), text.decode("latin-1")).replace("\n", " \n ").split(" "):
         if piece == "\n":
@@ -43,7 +41,7 @@ def cut(text: bytes) -> Tuple[List[str], List[int], List[int]]:
             starts.append(at + place)
             lines.append(line)
         at += len(piece) + 1
-    return words, starts, lines
+    return found
 
 
 # Most tokens are between blanks, and few of them differ: to look for each takes three times as long.
