@@ -232,8 +232,8 @@ class _Reader:
 
     def expression(self, bound: int = -1) -> Expression:
         """An expression whose signs bind closer than so; without a bound one of the statement, that is no part of another one."""
-        word, start = self.words[self.at], self.starts[self.at]
-        self.at += 1
+        at, words = self.at, self.words
+        word, start, self.at = words[at], self.starts[at], at + 1
         found: Expression
         if word == "(":
             found = self.expression(0)
@@ -244,7 +244,7 @@ class _Reader:
         else:
             self.names.append(word)
             found = new(Name, (word, start, start + len(word)))
-        while BINDS.get(self.words[self.at], -1) > bound:
+        while BINDS.get(words[self.at], -1) > bound:
             sign = self.next()
             right = self.expression(BINDS[sign])
             found = new(Operation, (sign, found, right, found.start, self.end()))
