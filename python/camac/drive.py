@@ -7,7 +7,6 @@ import os
 import select
 from typing import TYPE_CHECKING, List, NamedTuple, NoReturn, Optional, Protocol, Union
 
-from camac.contradictions import seen_of
 from camac.printed import REFUSAL, read_end, read_request
 from camac.values import Ending, Refusal, Request, RunEnd
 
@@ -270,6 +269,9 @@ class _Run:
     """A run in progress: the program, the branch, and the crates whose lockout is held."""
 
     def __init__(self, program: "_Program", branch: Branch, signals: "Signals") -> None:
+        # What calls no branch does not need this module.
+        from camac.contradictions import seen_of
+
         self.program, self.branch, self.lockouts, self.seen = program, branch, Lockouts(branch, signals), seen_of(branch)
         self.is_open = True
 

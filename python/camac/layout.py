@@ -57,14 +57,14 @@ def formatted(text: bytes) -> bytes:
 
 def _kept(rows: List[Row]) -> Tuple[List[str], List[str]]:
     """What the layout of a text keeps: its tokens, and its comments without the blanks at their ends."""
-    return list(chain.from_iterable(words for words, *_ in rows)), [comment for *_, comment in rows if comment]
+    return list(chain.from_iterable(words for words, _ in rows)), [comment for _, comment in rows if comment]
 
 
 def _pieces(rows: List[Row], tokens: List[str]) -> Iterator[Piece]:
     """The parts of a text, of these tokens, that are laid out. Raises LayoutFault at a byte that begins no token."""
     bad = {it for it in set(tokens) if not is_token(it)}
     at, ended = 0, 1
-    for line, (words, _, comment) in enumerate(rows, 1):
+    for line, (words, comment) in enumerate(rows, 1):
         if bad and not bad.isdisjoint(words):
             sign = next(it for it in words if it in bad)
             shown = sign if sign.isascii() and sign.isprintable() else f"0x{ord(sign):02x}"

@@ -4,7 +4,7 @@ from bisect import bisect_right
 from typing import Dict, Iterator, List, NamedTuple, Optional, Set, Tuple
 
 from camac.language import AFTER, BODIES, DECLARATIONS, EACH, LAM, PARAMETER, PROCEDURE, REGISTER, TABLE, VARIABLE, WORDS, Kind
-from camac.tokens import NAME, cut, is_token
+from camac.tokens import NAME, tokens_of
 
 LONGEST = 32
 SCRIPT = -1
@@ -48,14 +48,13 @@ class Names:
         self.mentions: List[Mention] = []
         self.blocks: List[Block] = []
         self.symbols: Dict[Tuple[str, str, int], Symbol] = {}
-        self.depth, self.is_inside, self.is_declaration, self.expected = 0, False, False, NO_NAMES
-        letters, behind_to = text.decode("latin-1"), 0
-        for it in NAMES.finditer(letters):
+        self.depth, self.is_inside, self.is_declaration, self.expected, behind_to = 0, False, False, NO_NAMES, 0
+        for it in NAMES.finditer(text.decode("latin-1")):
             word = it[1]
             if word in WORDS:
                 self.word(word, it.start())
                 behind_to = it.end() if word == "to" else 0
-            elif word == EACH and behind_to and _is_number(letters, behind_to, it.start()):
+            elif word == EACH and behind_to and _is_number(text[behind_to : it.start()]):
                 behind_to = 0
             elif word == "{":
                 self.open(it.start())
@@ -146,10 +145,10 @@ class Names:
         return found
 
 
-def _is_number(text: str, start: int, end: int) -> bool:
-    """Whether a part of a text, comments aside, is a number."""
-    words = [it for it in cut(text[start:end].encode("latin-1"))[0] if is_token(it)]
-    return len(words) == 1 and words[0].isdigit()
+def _is_number(text: bytes) -> bool:
+    """Whether a text, comments aside, is a number."""
+    tokens = tokens_of(text)
+    return len(tokens) == 1 and tokens[0].text.isdigit()
 
 
 def fault_of_new_name(names: Names, symbol: Symbol, new: str) -> Optional[str]:

@@ -111,8 +111,9 @@ REQUESTS = (
     Form(lambda crate: Request("unlock", (crate,)), "unlock {crate:crate}"),
 )
 REFUSAL = Form(Refusal, "refused {code:code}(?: line {line}(?: column {column})?)?: {rule:rest}")
-# Where a refusal begins in what `camac tell` prints, and where the lines of `camac costs` do.
-REFUSED, UNKEPTS, BODIES = re.compile("(?m)^(?=refused )"), re.compile("(?m)^unkept "), re.compile("(?m)^(?:service|proc) \\w+ line ")
+# Where a refusal begins in what `camac tell` prints, and where the lines of `camac costs` do; and what is before the first look-at-me that is not kept.
+REFUSED, BODIES = re.compile("(?m)^(?=refused )"), re.compile("(?m)^(?:service|proc) \\w+ line ")
+BEFORE_UNKEPT = "\nunkept "
 # A row by its words; and which of them are its depth, the statement's word, how often it is made, the cycles of one time, and, from there on, its place.
 Words = List[str]
 DEPTH, WORD_OF, TIMES, CYCLES, PLACE_OF = 3, 4, 6, 8, 17
@@ -198,14 +199,14 @@ def read_rows(printed: str) -> List[List[Words]]:
 
 def costs_in(printed: str) -> str:
     """The lines of `camac costs` in what `camac tell` prints of an accepted script."""
-    found, behind = BODIES.search(printed), UNKEPTS.search(printed)
-    return printed[found.start() : behind.start() if behind else None] if found else ""
+    found = BODIES.search(printed)
+    return printed[found.start() :].partition(BEFORE_UNKEPT)[0] if found else ""
 
 
 def read_unkept(printed: str) -> List[Unkept]:
     """What `camac tell` prints of what a script does to look-at-mes."""
-    found = UNKEPTS.search(printed)
-    return [_read(line, UNKEPT) for line in printed[found.start() :].splitlines()] if found else []
+    _, before, rest = printed.partition(BEFORE_UNKEPT)
+    return [_read(line, UNKEPT) for line in f"unkept {rest}".splitlines()] if before else []
 
 
 def row_at(printed: str, line: int, column: int) -> Optional[Row]:

@@ -79,14 +79,15 @@ def _called(program: str, *words: File, given: bytes = b"") -> Tuple[int, str, s
     import subprocess
 
     # Files in memory: by pipes a call takes Python twice as long.
-    stdin, stdout, stderr = files = [open(os.memfd_create(it), "w+b", 0) for it in ("stdin", "stdout", "stderr")]
-    with stdin, stdout, stderr:
-        stdin.write(given)
-        stdin.seek(0)
-        status = subprocess.call([program, *words], stdin=stdin, stdout=stdout, stderr=stderr)
+    files = [os.memfd_create(it) for it in ("stdin", "stdout", "stderr")]
+    try:
+        os.pwrite(files[0], given, 0)
+        status = subprocess.call([program, *words], stdin=files[0], stdout=files[1], stderr=files[2])
+        printed, errors = (os.pread(it, os.stat(it).st_size, 0).decode(errors="replace") for it in files[1:])
+        return status, printed, errors
+    finally:
         for it in files:
-            it.seek(0)
-        return status, stdout.read().decode(errors="replace"), stderr.read().decode(errors="replace")
+            os.close(it)
 
 
 def lines_of(*words: File, program: Optional[File] = None) -> Iterator[str]:

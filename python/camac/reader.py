@@ -22,12 +22,8 @@ def read_script(text: bytes) -> Script:
 
 def read_headings(text: bytes) -> List[Body]:
     """The services and procedures of a script without their statements."""
-    reader, found = _Reader(text), []
-    for at, word in enumerate(reader.words):
-        if word in BODIES:
-            reader.at = at
-            found.append(reader.heading())
-    return found
+    reader = _Reader(text)
+    return [reader.heading(at) for at, word in enumerate(reader.words) if word in BODIES]
 
 
 class _Reader:
@@ -35,7 +31,7 @@ class _Reader:
     expressions and the names in them."""
 
     def __init__(self, text: bytes) -> None:
-        self.words, self.places, self.lines, self.begins = cut(text)
+        self.words, self.starts, self.lines = cut(text)
         self.words.append("")
         self.at = self.first = 0
         self.variables: Dict[str, Range] = {}
@@ -58,13 +54,9 @@ class _Reader:
             raise ValueError(f"line {self.lines[self.at]}: `{self.words[self.at]}` in the place of `{word}`")
         self.at += 1
 
-    def start(self, at: int) -> int:
-        return self.begins[self.lines[at]] + self.places[at]
-
     def end(self) -> int:
         """Where the last token ends that was taken."""
-        at = self.at - 1
-        return self.begins[self.lines[at]] + self.places[at] + len(self.words[at])
+        return self.starts[self.at - 1] + len(self.words[self.at - 1])
 
     def script(self) -> Script:
         script = Script(self.words)
@@ -83,16 +75,18 @@ class _Reader:
                 self.variables[self.next()] = (0, 0)
         return script
 
-    def heading(self) -> Body:
-        line, start, is_service, name = self.lines[self.at], self.start(self.at), self.next() == "service", self.next()
-        body = Body(name, is_service, line, start, dict(self.variables) if is_service else self.parameters())
-        begin, self.at = self.at, self.words.index("{", self.at)
-        places = ((it, self.start(at)) for at, it in enumerate(self.words[begin : self.at], begin) if it.isdigit())
-        body.numbers += (Number(int(it), start, start + len(it)) for it, start in places)
+    def heading(self, at: int) -> Body:
+        is_service, self.at = self.words[at] == "service", at + 2
+        variables = dict(self.variables) if is_service else self.parameters()
+        body = Body(self.words[at + 1], is_service, self.lines[at], self.starts[at], variables)
+        while self.words[self.at] != "{":
+            word = self.next()
+            if word.isdigit():
+                body.numbers.append(Number(int(word), self.starts[self.at - 1], self.end()))
         return body
 
     def body(self) -> Body:
-        body = self.heading()
+        body = self.heading(self.at)
         self.every = body.every
         self.block(body.statements)
         body.end = self.end()
@@ -128,7 +122,7 @@ class _Reader:
 
     def begun(self, it: Begun) -> Begun:
         """A statement of which all is read but its blocks."""
-        it.line, it.start = self.lines[self.first], self.start(self.first)
+        it.line, it.start = self.lines[self.first], self.starts[self.first]
         it.expressions, it.names, self.expressions, self.names = self.expressions, self.names, [], []
         self.every.append(it)
         return it
@@ -139,7 +133,7 @@ class _Reader:
 
     def set_register(self, _: str) -> Statement:
         register = self.next()
-        self.next()
+        self.at += 1
         return self.begun(SetRegister(register, (self.expression(), self.expression(), self.expression())))
 
     def cycle(self, word: str) -> Statement:
@@ -149,16 +143,15 @@ class _Reader:
         return self.begun(Cycle(word == "cssa", function, registers, into, value))
 
     def transfer(self, word: str) -> Statement:
-        function, registers = int(self.next()), [self.next()]
-        if word == "cfmad":
-            registers.append(self.next())
+        function = int(self.next())
+        registers = (self.next(), self.next()) if word == "cfmad" else (self.next(),)
         if self.takes("table"):
             self.next()
         self.expect("max")
         most = self.expression()
         limit = self.expression() if self.takes("limit") else None
         self.expect("tally")
-        return self.begun(Transfer(function, tuple(registers), most, limit, self.next()))
+        return self.begun(Transfer(function, registers, most, limit, self.next()))
 
     def plain(self, word: str) -> Statement:
         made = Plain(word, self.next()) if word in LAM_CALLS else Plain(word, "", (self.expression(),))
@@ -191,11 +184,11 @@ class _Reader:
     def loop(self, word: str) -> Statement:
         made = self.begun(self.for_() if word == "for" else self.while_())
         if self.takes("keep"):
-            made.keep = self.start(self.at - 1)
+            made.keep = self.starts[self.at - 1]
+        while self.words[self.at] != "{":
             made.keeps.append(self.keep())
-            while self.takes(","):
-                made.keeps.append(self.keep())
-        made.block, inside = self.start(self.at), len(self.every)
+            self.takes(",")
+        made.block, inside = self.starts[self.at], len(self.every)
         self.block(made.body)
         made.written = frozenset([it.writes for it in self.every[inside:] if it.writes]) - {made.name}
         return made
@@ -219,8 +212,8 @@ class _Reader:
 
     def keep(self) -> Keep:
         at, name, kept = self.at, self.next(), self.range()
-        low, high = ((self.start(it), self.start(it) + len(self.words[it])) for it in (at + 2, at + 4))
-        return Keep(name, kept, low, high, self.start(at), high[1])
+        low, high = ((self.starts[it], self.starts[it] + len(self.words[it])) for it in (at + 2, at + 4))
+        return Keep(name, kept, low, high, self.starts[at], high[1])
 
     def condition(self) -> Tuple[Part, ...]:
         parts = [self.part()]
@@ -229,7 +222,7 @@ class _Reader:
         return tuple(parts)
 
     def part(self) -> Part:
-        begin = self.start(self.at)
+        begin = self.starts[self.at]
         is_negated = self.takes("not")
         if self.takes("q") or self.takes("x"):
             self.names += () if FLAGS in self.names else (FLAGS,)
@@ -239,9 +232,8 @@ class _Reader:
 
     def expression(self, bound: int = -1) -> Expression:
         """An expression whose signs bind closer than so; without a bound one of the statement, that is no part of another one."""
-        at = self.at
-        word, start = self.words[at], self.begins[self.lines[at]] + self.places[at]
-        self.at = at + 1
+        at, words = self.at, self.words
+        word, start, self.at = words[at], self.starts[at], at + 1
         found: Expression
         if word == "(":
             found = self.expression(0)
@@ -252,7 +244,7 @@ class _Reader:
         else:
             self.names.append(word)
             found = new(Name, (word, start, start + len(word)))
-        while BINDS.get(self.words[self.at], -1) > bound:
+        while BINDS.get(words[self.at], -1) > bound:
             sign = self.next()
             right = self.expression(BINDS[sign])
             found = new(Operation, (sign, found, right, found.start, self.end()))

@@ -7,9 +7,7 @@ from typing import Callable, Dict, FrozenSet, Iterator, List, NamedTuple, Option
 from camac.language import Kind
 from camac.values import Range as Range
 
-OPERATIONS: Dict[str, Callable[[int, int], int]] = {
-    "+": operator.add, "-": operator.sub, "*": operator.mul, "/": operator.floordiv, "%": operator.mod,
-}
+OPERATIONS: Dict[str, Callable[[int, int], int]] = {"+": operator.add, "-": operator.sub, "*": operator.mul, "/": operator.floordiv, "%": operator.mod}
 # The flags q and x, which each cycle sets, are one name. No variable has it.
 FLAGS = "q"
 

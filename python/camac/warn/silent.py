@@ -12,8 +12,7 @@ from camac.subcommands import plan as ask_plan
 from camac.texts import GREATEST_TEXT, plan_text
 from camac.tokens import tokens_of
 from camac.tree import (
-    FLAGS, OPERATIONS, Assign, Body, Cycle, Expression, For, If, Loop, Name, Number, Operation, Range, Script, SetRegister, Statement, Transfer, all_in,
-    names_in,
+    FLAGS, OPERATIONS, Assign, Body, Cycle, Expression, For, If, Loop, Name, Number, Operation, Range, Script, SetRegister, Statement, Transfer, names_in,
 )
 from camac.values import range_of
 from camac.warn.codes import Code, Warned
@@ -101,7 +100,7 @@ class Silent:
         for adds, (it, _, total, step, most) in guards.items() if len(guards) <= MOST_ASKED else ():
             for loop in (one for one in flow.row if isinstance(one, Loop) and one.start < it.start < one.end):
                 # The outermost loop in which nothing else sets the sum.
-                setting = [one for one in all_in(loop.body) if one.writes == adds.name]
+                setting = [one for one in flow.row if loop.start < one.start < loop.end and one.writes == adds.name]
                 if all(one in guards for one in setting):
                     steps = [(self.range(one, guards[one].step)[1], int(flow.row[one][TIMES])) for one in setting if isinstance(one, Assign)]
                     added = [step_of * times // int(flow.row[loop][TIMES]) for step_of, times in steps]
@@ -135,10 +134,8 @@ def _of_rows(flow: Flow) -> Iterator[Warned]:
         elif first not in flow.made:
             yield Warned(it.line, Code.DECIDED, f"this condition is always false: `{flow.row[first][WORD_OF]}` on line {first.line} is never reached")
         elif it in flow.always:
-            rest = "its block is always made"
-            if it.blocks[1]:
-                first = it.blocks[1][0]
-                rest = f"`{flow.row[first][WORD_OF]}` on line {first.line} is never reached"
+            other = it.blocks[1]
+            rest = f"`{flow.row[other[0]][WORD_OF]}` on line {other[0].line} is never reached" if other else "its block is always made"
             yield Warned(it.line, Code.DECIDED, f"this condition is always true: {rest}")
 
 
