@@ -93,7 +93,7 @@ service adc within 9 cycles event 0 words {
   cclc adc
 }
 """
-ARCHIVE_BYTES = 1_300_000
+ARCHIVE_BYTES = 1_310_000
 NEEDED = {"malloc", "realloc", "free", "memcpy", "memmove", "memset"}
 ESONE = """
 void cdreg(int *ext, int b, int c, int n, int a);

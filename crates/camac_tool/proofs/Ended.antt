@@ -11,7 +11,7 @@ use Rattle.camac_play.specs.declared.telling.Telling.{Telling}
 use Rattle.camac_play.specs.declared.telling.Telling.TheVariants.{Listing, Requests}
 use Rattle.camac_response_times.specs.Setting.{ReadsSettings}
 use Rattle.camac_response_times.specs.declared.setting.Settings.{Settings}
-use Rattle.camac_engines.specs.Engine.{Answers, IsWritten}
+use Rattle.camac_engines.specs.Engine.{Answers}
 use Rattle.camac_engines.specs.Found.{HasJudged}
 use Rattle.camac_engines.specs.Response.{RespondsOn}
 use Rattle.camac_engines.specs.declared.fault.ToolFault.{ToolFault}
@@ -49,16 +49,6 @@ module _ {T : Type 0} (WasRead Is : T → Type 0) (Says : T → Outcome → List
   stopped TooLong r same h = rw same h.1
   stopped Read r same h = rw same h
   stopped Memory r same h = rw same h
-
-pub written_stopped : (Says : Outcome → List ℕ → Type 0) (o p : Option (List ℕ)) (e : ToolFault) → IsWritten Says o p (Err e) → Tells Says o p (Err e)
-written_stopped Says o p Write h = h
-written_stopped Says o p Memory h = h
-written_stopped Says o p Read h = absurd h
-written_stopped Says o p TooLong h = absurd h
-
--- of the same bytes
-pub tells_of : (Says : Outcome → List ℕ → Type 0) (o o' p p' : Option (List ℕ)) (r : Result Done ToolFault) → o' ≡ o → p ≡ p' → Tells Says o' p' r → Tells Says o p r
-tells_of Says o o' p p' r old new told = subst (λ (x : Option (List ℕ)). Tells Says x p r) old (subst (λ (x : Option (List ℕ)). Tells Says o' x r) (sym new) told)
 
 -- of `response`, by whatever the engine says of what it judged and read
 module _ (Judges : Judged → Type 0) (IsLong : Type 0) (s : Settings) (o p : Option (List ℕ)) where

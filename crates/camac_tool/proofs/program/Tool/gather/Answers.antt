@@ -1,8 +1,7 @@
-use Rattle.std.proofs.Common.{◌≡◌, ◌∙◌, List, ℕ, [], Some, Ok, sym, ap, subst}
+use Rattle.std.proofs.Common.{◌∙◌, List, ℕ, [], Ok, sym, ap}
 use Rattle.std.proofs.KnownBytes.{Keeps-refl}
 use Rattle.std.specs.Global.{Vec}
 use Rattle.std.specs.Io.KnownBytes.{Keeps}
-use Rattle.camac_tool.specs.Jobs.{Replies}
 use Rattle.camac_tool.proofs.Held.{handed, no_write, none_handed, not_handed, replied_as}
 use Rattle.camac_tool.proofs.program.Tool.gather.Goals as goal
 use Rattle.camac_tool.proofs.program.Tool.gather.Goals.{then-is_err-via-then-is_err, then-is_err-via-else-is_err+then-is_err-2}

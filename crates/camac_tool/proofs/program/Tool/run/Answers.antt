@@ -1,4 +1,4 @@
-use Rattle.std.proofs.Common.{◌≡◌, ◌||◌, refl}
+use Rattle.std.proofs.Common.{◌≡◌, refl}
 use Rattle.camac_engines.specs.Engine.{is_write_fault}
 use Rattle.camac_tool.proofs.Caused.{of_inputs, of_run}
 use Rattle.camac_tool.proofs.Ended.{not_begun, run_handed}

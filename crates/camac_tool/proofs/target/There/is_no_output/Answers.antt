@@ -1,4 +1,4 @@
-use Rattle.std.proofs.Common.{◌≡◌, true, refl, inl, inr}
+use Rattle.std.proofs.Common.{◌≡◌, true, refl, inr}
 use Rattle.camac_tool.proofs.Inputs.{if_ok, on_err, or_else, other_is, other_met, other_was}
 use Rattle.camac_tool.proofs.target.There.is_no_output.Goals as goal
 
