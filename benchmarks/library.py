@@ -1,6 +1,6 @@
 #!/usr/bin/env python3
-"""Measures the cost of an answer through the library for C: by `camac_wants` and `camac_next`, or by `camac_step`; and `camac_words` at the end of an
-event.
+"""Measures the cost of an answer through the library for C: by `camac_wants` and `camac_next`, by `camac_step`, or by `camac_ahead` and
+`camac_next_many`; and `camac_words` at the end of an event, or `camac_record`.
 
 usage: benchmarks/library.py [ARCHIVE]     ARCHIVE is crates/camac_c/out/libcamac_c.a unless given (built by: cd crates/camac_c && rt lib)
 
@@ -24,8 +24,9 @@ SCRIPTS = ("straight_line", "lockout", "all_channels")
 FEW, MANY = 10_000, 20_000
 ANSWERS = 1_000_000
 BEST = 5
-LOOP = ("play", "main", "by_next", "by_step", "camac_wants", "camac_next", "camac_step", "camac_words")
-CALLS = ("next", "step")
+LOOP = ("play", "play_by", "play_lists", "main", "by_next", "by_step", "by_words", "by_record", "camac_wants", "camac_next", "camac_step",
+        "camac_ahead", "wants_of", "camac_next_many", "camac_words", "camac_record")
+CALLS = ("next", "step", "record", "lists")
 INTERFACE = re.compile(r"camac_raw_|camac_c::")
 COPIES = re.compile(r"^(?:__)?mem(?:cpy|move|set)")
 

@@ -242,11 +242,12 @@ def measured(case, programs, best):
         return [len(case.text)] + [number for call, taken in zip(calls, times) for number in (min(taken), peak(call, room), statistics.median(taken))]
 
 
-def instructions(words, given=None):
-    """How many instructions one call takes; `given` is its standard input."""
-    valgrind = ["valgrind", "--tool=callgrind", "--callgrind-out-file=/dev/null", *words]
-    said = subprocess.run(valgrind, stdin=given, stdout=subprocess.DEVNULL, stderr=subprocess.PIPE, text=True)
-    return int(re.search(r"Collected : (\d+)", said.stderr)[1])
+def instructions(words, given="", statuses=(0, 1)):
+    """How many instructions one call takes, which ends with one of these statuses; `given` is its standard input."""
+    valgrind = ["valgrind", "--tool=cachegrind", "--cache-sim=no", "--cachegrind-out-file=/dev/null", *words]
+    said = subprocess.run(valgrind, input=given, stdout=subprocess.DEVNULL, stderr=subprocess.PIPE, text=True)
+    assert said.returncode in statuses, said.stderr
+    return int(re.search(r"I +refs: +([0-9,]+)", said.stderr)[1].replace(",", ""))
 
 
 def counted(case, program):

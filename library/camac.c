@@ -16,9 +16,9 @@ uint32_t camac_raw_run(const uint8_t *plan, size_t plan_size, const uint8_t *scr
 uint32_t camac_raw_open(void *run, const uint8_t *plan, size_t plan_size, const uint8_t *script, size_t script_size, uint8_t *out, size_t room,
                         size_t *size);
 uint32_t camac_raw_wants(void *run, void *want);
-size_t camac_raw_ahead(void *run, uint8_t *bytes, size_t room);
+size_t camac_raw_ahead(void *run, uint32_t far, uint8_t *bytes, size_t room);
 size_t camac_raw_back(void *run, uint8_t *bytes, size_t room);
-uint32_t camac_raw_service_ahead(void *run, uint32_t number, uint8_t *bytes, size_t room, size_t *size);
+uint32_t camac_raw_service_ahead(void *run, uint32_t number, uint32_t far, uint8_t *bytes, size_t room, size_t *size);
 size_t camac_raw_transfer(void *run, uint8_t *bytes, size_t room);
 size_t camac_raw_to_write(void *run, uint8_t *bytes, size_t room);
 uint32_t camac_raw_next(void *run, const void *answer, void *progress);
@@ -171,8 +171,8 @@ int camac_open(camac_session *s, const void *plan, size_t plan_size, const void 
 }
 
 /* The ways of a session: the blocks of camac_blocks, and whether pauses may come so soon that lists have one operation. */
-#define MODES 15u
-#define IS_SHORT 16u
+#define MODES 31u
+#define IS_SHORT 32u
 
 /* What is left of the transfer whose cycle is wanted; `goes_on` says whether there is another cycle after the next one, by the Q of that. */
 typedef struct transfer_left {
@@ -181,12 +181,15 @@ typedef struct transfer_left {
 
 static int is_transfer(const camac_session *s, transfer_left *its) { return camac_raw_transfer(run_of(s), (uint8_t *)its, sizeof *its) > 0; }
 
+/* Whether the session's controller makes a block of this mode. */
+static int makes_block(const camac_session *s, uint32_t mode, uint8_t data) {
+    return (s->camac_ways & mode) && (data != CAMAC_WRITE || s->camac_ways & CAMAC_WRITES);
+}
+
 /* Makes a cycle that is wanted the block that it begins, if the session's controller makes such blocks. */
-static void as_block(const camac_session *s, camac_want *want) {
+static void begin_block(const camac_session *s, camac_want *want) {
     transfer_left its;
-    const uint32_t modes = s->camac_ways & MODES;
-    if (!modes || want->kind != CAMAC_CYCLE || (want->data == CAMAC_WRITE && !(modes & CAMAC_WRITES))) return;
-    if (!is_transfer(s, &its) || !(its.mode & modes)) return;
+    if (want->kind != CAMAC_CYCLE || !is_transfer(s, &its) || !makes_block(s, its.mode, want->data)) return;
     want->kind = CAMAC_BLOCK;
     want->mode = (uint8_t)its.mode;
     want->last_n = (uint8_t)its.last_n;
@@ -195,53 +198,72 @@ static void as_block(const camac_session *s, camac_want *want) {
     want->words = its.words;
 }
 
+#define AS_BLOCK(s, want) ((s)->camac_ways & MODES ? begin_block((s), (want)) : (void)0)
+
 int camac_wants(const camac_session *s, camac_want *want) {
     if (!IS_KNOWN(want)) return CAMAC_MISUSE;
     if (!is_session(s)) return CLEAR(want), CAMAC_MISUSE;
     CLEAR_BLOCK(want);
     const int code = (int)camac_raw_wants(run_of(s), &want->kind);
-    as_block(s, want);
+    AS_BLOCK(s, want);
     return code;
 }
 
 /* The struct behind this one in a list, which gets the same size. */
 #define NEXT(its, bytes) ((its) = (void *)((char *)(its) + (bytes)), (its)->size = (bytes))
 
-/* How many numbers an export tells of an operation. */
-#define NUMBERS 9u
+/* How many numbers an export tells of a member of a list. */
+#define NUMBERS 15u
 
-/* Operations by the numbers that an export has written, as many as there is room for. */
-static size_t wants_of(const uint32_t *its, size_t all, camac_want *want, size_t room) {
+/* A member of a list by its numbers. */
+static void want_of(const uint32_t *its, camac_want *want) {
+    CLEAR_FROM(want, camac_want, spare);
+    want->kind = (uint8_t)its[0];
+    want->c = (uint8_t)its[1];
+    want->n = (uint8_t)its[2];
+    want->a = (uint8_t)its[3];
+    want->f = (uint8_t)its[4];
+    want->data = (uint8_t)its[5];
+    want->waits = (uint8_t)its[6];
+    want->width = (uint8_t)its[7];
+    want->word = its[8];
+    want->is_short = (uint8_t)its[9];
+    want->mode = (uint8_t)its[10];
+    want->last_n = (uint8_t)its[11];
+    want->last_a = (uint8_t)its[12];
+    want->cycles = its[13];
+    want->words = its[14];
+}
+
+/* Members by the numbers that an export has written, as many as there is room for, up to a block that the session's controller does not make: if that
+ * is the first, it is a cycle. */
+static size_t wants_of(const camac_session *s, const uint32_t *its, size_t all, camac_want *want, size_t room) {
     const size_t count = all / NUMBERS < room ? all / NUMBERS : room;
     const uint32_t size = count ? want->size : 0;
     for (size_t i = 0; i < count; i++, its += NUMBERS) {
+        const int is_made = its[0] != CAMAC_BLOCK || makes_block(s, its[10], (uint8_t)its[5]);
+        if (i && !is_made) return i;
         if (i) NEXT(want, size);
-        CLEAR(want);
-        want->kind = (uint8_t)its[0];
-        want->c = (uint8_t)its[1];
-        want->n = (uint8_t)its[2];
-        want->a = (uint8_t)its[3];
-        want->f = (uint8_t)its[4];
-        want->data = (uint8_t)its[5];
-        want->waits = (uint8_t)its[6];
-        want->width = (uint8_t)its[7];
-        want->word = its[8];
+        want_of(its, want);
+        if (is_made) continue;
+        CLEAR_BLOCK(want);
+        want->kind = CAMAC_CYCLE;
+        return 1;
     }
     return count;
 }
 
-static size_t call_of_wants(size_t (*call)(void *, uint8_t *, size_t), const camac_session *s, camac_want *want, size_t room) {
-    uint32_t numbers[NUMBERS * CAMAC_AHEAD];
-    if (!is_session(s) || !room || !IS_KNOWN(want)) return 0;
-    return wants_of(numbers, call(run_of(s), (uint8_t *)numbers, sizeof numbers), want, room);
-}
-
 /* The room of a list: for one operation where a pause could come before the last. */
-static size_t room_of(const camac_session *s, size_t room) { return room > 1 && is_session(s) && s->camac_ways & IS_SHORT ? 1 : room; }
+static size_t room_of(const camac_session *s, size_t room) { return room > 1 && s->camac_ways & IS_SHORT ? 1 : room; }
+
+/* Whether lists go on behind blocks and releases. */
+static uint32_t is_far(const camac_session *s) { return s->camac_ways & CAMAC_IN_LISTS; }
 
 size_t camac_ahead(const camac_session *s, camac_want *want, size_t room) {
-    const size_t count = call_of_wants(camac_raw_ahead, s, want, room_of(s, room));
-    if (count) as_block(s, want);
+    uint32_t numbers[NUMBERS * CAMAC_AHEAD];
+    if (!is_session(s) || !room || !IS_KNOWN(want)) return 0;
+    const size_t count = wants_of(s, numbers, camac_raw_ahead(run_of(s), is_far(s), (uint8_t *)numbers, sizeof numbers), want, room_of(s, room));
+    if (count) AS_BLOCK(s, want);
     return count;
 }
 
@@ -250,17 +272,21 @@ int camac_service_ahead(const camac_session *s, uint32_t service, camac_want *wa
     size_t unasked, all;
     count = told(count, &unasked);
     if (!is_session(s) || (room && !IS_KNOWN(want))) return CAMAC_MISUSE;
-    const uint32_t code = camac_raw_service_ahead(run_of(s), service, (uint8_t *)numbers, sizeof numbers, &all);
-    *count = wants_of(numbers, all, want, room_of(s, room));
+    const uint32_t code = camac_raw_service_ahead(run_of(s), service, is_far(s), (uint8_t *)numbers, sizeof numbers, &all);
+    *count = wants_of(s, numbers, all, want, room_of(s, room));
     return (int)code;
 }
 
-size_t camac_back(const camac_session *s, camac_want *want, size_t room) { return call_of_wants(camac_raw_back, s, want, room); }
+size_t camac_back(const camac_session *s, camac_want *want, size_t room) {
+    uint32_t numbers[NUMBERS * CAMAC_BACK];
+    if (!is_session(s) || !room || !IS_KNOWN(want)) return 0;
+    return wants_of(s, numbers, camac_raw_back(run_of(s), (uint8_t *)numbers, sizeof numbers), want, room);
+}
 
 /* Adds which service left the event: the one that the last demand called. */
 static int served(camac_session *s, camac_progress *its, uint32_t code) {
     if (its->kind == CAMAC_DEMAND) s->camac_serving = its->service;
-    its->event_service = its->event ? s->camac_serving : 0;
+    if (its->event) its->event_service = s->camac_serving;
     return (int)code;
 }
 
@@ -271,6 +297,9 @@ int camac_next(camac_session *s, const camac_answer *answer, camac_progress *pro
     return served(s, progress, camac_raw_next(run_of(s), &answer->word, &progress->kind));
 }
 
+/* The answer behind this one. */
+static const camac_answer *after(const camac_answer *answer) { return (const void *)((const char *)answer + answer->size); }
+
 int camac_next_many(camac_session *s, const camac_answer *answer, camac_progress *progress, size_t count, size_t *taken) {
     size_t unasked;
     taken = told(taken, &unasked);
@@ -279,7 +308,7 @@ int camac_next_many(camac_session *s, const camac_answer *answer, camac_progress
     const uint32_t size = count ? progress->size : 0;
     int code = CAMAC_OK;
     for (size_t i = 0; i < count; i++) {
-        if (i) NEXT(progress, size), answer = (const void *)((const char *)answer + answer->size);
+        if (i) NEXT(progress, size), answer = after(answer);
         code = camac_next(s, answer, progress);
         if (code == CAMAC_OK || (code == CAMAC_BUSY && progress->kind)) ++*taken;
         if (code != CAMAC_OK || progress->event) break;
@@ -295,22 +324,59 @@ int camac_blocks(camac_session *s, uint32_t modes) {
     return CAMAC_OK;
 }
 
-int camac_block(camac_session *s, const camac_answer *answer, camac_progress *progress, size_t count, size_t *taken) {
-    size_t unasked;
+/* Takes the answers of a block, and tells whether it is over. */
+static int block_is_taken(camac_session *s, const camac_answer *answer, camac_progress *progress, size_t count, size_t *taken, int *is_over) {
     camac_want want = CAMAC_WANT;
     transfer_left its;
-    taken = told(taken, &unasked);
-    if (!IS_KNOWN(progress)) return CAMAC_MISUSE;
     CLEAR(progress);
+    *is_over = 0;
     if (!count || camac_wants(s, &want) != CAMAC_OK || want.kind != CAMAC_BLOCK) return CAMAC_MISUSE;
-    for (size_t i = 0; i < count; i++) {
-        if (i) answer = (const void *)((const char *)answer + answer->size);
+    for (size_t i = 0; i < count && !*is_over; i++) {
+        if (i) answer = after(answer);
         is_transfer(s, &its);
-        const int code = camac_next(s, answer, progress);
-        if (code == CAMAC_OK || (code == CAMAC_BUSY && progress->kind)) ++*taken;
-        if (code != CAMAC_OK || !its.goes_on[progress->q]) return code;
+        const int code = camac_next(s, answer, progress), is_taken = code == CAMAC_OK || (code == CAMAC_BUSY && progress->kind);
+        *taken += (size_t)is_taken;
+        *is_over = is_taken && !its.goes_on[progress->q];
+        if (code != CAMAC_OK) return code;
     }
     return CAMAC_OK;
+}
+
+int camac_block(camac_session *s, const camac_answer *answer, camac_progress *progress, size_t count, size_t *taken) {
+    size_t unasked;
+    int is_over;
+    taken = told(taken, &unasked);
+    return IS_KNOWN(progress) ? block_is_taken(s, answer, progress, count, taken, &is_over) : CAMAC_MISUSE;
+}
+
+/* Takes the answers of a member of a list, and tells whether it is over. */
+static int member_is_taken(camac_session *s, const camac_want *want, const camac_answer *answer, camac_progress *progress, size_t made, int *is_over) {
+    size_t used;
+    if (want->kind == CAMAC_BLOCK) return block_is_taken(s, answer, progress, made, &used, is_over);
+    *is_over = 1;
+    if (want->kind != CAMAC_UNLOCK) return camac_next(s, answer, progress);
+    CLEAR(progress);
+    progress->kind = want->kind;
+    progress->c = want->c;
+    return CAMAC_OK;
+}
+
+int camac_next_list(camac_session *s, const camac_want *list, const size_t *made, const camac_answer *answer, camac_progress *progress, size_t count,
+                    size_t *taken) {
+    size_t unasked;
+    int code = CAMAC_OK, is_over = 1;
+    taken = told(taken, &unasked);
+    if (!is_session(s) || !count || !made || !IS_KNOWN(list) || !IS_KNOWN(progress)) return CAMAC_MISUSE;
+    const uint32_t size = progress->size;
+    for (size_t i = 0; i < count; i++, list = (const void *)((const char *)list + list->size)) {
+        size_t answers = list->kind == CAMAC_BLOCK ? made[i] : list->kind != CAMAC_UNLOCK;
+        if (i) NEXT(progress, size);
+        code = member_is_taken(s, list, answer, progress, answers, &is_over);
+        if (is_over && (code == CAMAC_OK || (code == CAMAC_BUSY && progress->kind))) ++*taken;
+        if (code != CAMAC_OK || !is_over) break;
+        for (; answers; answers--) answer = after(answer);
+    }
+    return code;
 }
 
 int camac_step(camac_session *s, const camac_answer *answer, camac_progress *progress, camac_want *want) {
@@ -319,7 +385,7 @@ int camac_step(camac_session *s, const camac_answer *answer, camac_progress *pro
     CLEAR_SPARE(progress);
     CLEAR_BLOCK(want);
     const int code = served(s, progress, camac_raw_step(run_of(s), &answer->word, &progress->kind, &want->kind));
-    as_block(s, want);
+    AS_BLOCK(s, want);
     return code;
 }
 

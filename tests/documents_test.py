@@ -52,7 +52,7 @@ FILE = re.compile(r"(?:python|toml(?! P\d)|sh|c|cpp|camac (?:accepted|\w+ line \
 KEPT = {"TUTORIAL.md": ("tutorial", "."), "RECIPES.md": ("benches", "benches")}
 COMPILER = re.compile(r"^\$ (?:cc|c\+\+) ", re.M)
 LIBRARY = re.compile(r"pkg-config|in_this_process\.py|^\$ \./readout\b", re.M)
-ARRAYS = re.compile(r"^\$ .*(?:numpy|h5py|\.npz|\.h5)\b", re.M)
+ARRAYS = re.compile(r"^\$ .*(?:numpy|(?:h5py|\.npz|\.h5)\b)", re.M)
 CELL = re.compile(r"^\|(?:[^|\n]*\|)*([^|\n]*)\|$")
 # The places for a piece of a script: a statement, a write, a statement's begin, a condition, the end of one, an expression, the end of one.
 PLACES = ("{}", "cdreg r 1 1 6 0  v = v % 256  {}", "{} {{ }}", "if {} {{ }}", "if v > 0 {} {{ }}", "put ({}) % 2", "put (v {}) % 2")
@@ -358,15 +358,14 @@ class Sentences(unittest.TestCase):
         self.assertEqual({*named} - known, set())
 
     def test_sentences_of_look_at_mes(self):
-        """The pages that say the law of look-at-mes have a sentence for each field of the record that it assumes, and one on where a run stops."""
+        """README has a sentence for each field of the record that the law of look-at-mes assumes, and one on where a run stops."""
         fields = self.page("crates/camac_response/specs/Lams.antt").partition("pub record ModulesKeep")[2]
         ends = self.page("crates/camac_response/specs/Modules.antt").partition("abbrev pub waits_watch")[0].splitlines()[-1]
         comments = re.findall(r"((?: +-- .*\n)+) +pub \w+ :", fields)
         self.assertEqual(len(comments), len(re.findall(r"(?m)^ +pub \w+ :", fields)))
         sentences = [" ".join(re.sub(r"(?m)^ *-- ", "", it).split()) for it in (*comments, ends)]
-        for page, heading in (("README.md", "> At the rates"), ("docs/RESPONSE.md", "## What has to hold")):
-            listed = re.findall(r"(?m)^\d\. (.*(?:\n   .*)*)", self.page(page).partition(heading)[2].partition("\n## ")[0])
-            self.assertEqual([" ".join(it.split()) for it in listed], sentences, page)
+        listed = re.findall(r"(?m)^\d\. (.*(?:\n   .*)*)", self.page("README.md").partition("> At the rates")[2].partition("\n## ")[0])
+        self.assertEqual([" ".join(it.split()) for it in listed], sentences)
         number = ("four", "five", "six", "seven")[len(sentences) - 4]
         told = [it for page in PAGES for it in re.findall(r"\[(\w+)\s+sentences\]", page.read_text())]
         self.assertEqual({*told}, {number})

@@ -16,14 +16,13 @@ import unittest
 
 from support import of_c
 from support.live import PROGRAM, Case
-from camac.edits import Edit, edited
 from camac.loops.search import propose
 from camac.lsp.actions import OF_LOOPS, _of_refusal
 from camac.lsp.documents import Text
 from camac.lsp.refusals import refusals
 from camac.lsp.workspace import Judge, Judged
 from camac.reader import read_script
-from camac.texts import SAMPLE, plan_text
+from camac.texts import SAMPLE, Edit, edited, plan_text
 from camac.tokens import tokens_of
 from camac.tree import Loop, all_in
 from oracle.cases import script_case
@@ -144,7 +143,7 @@ class Refused:
                 yield "E3 without an arrow", put(head[0])
             elif "write `-> v`" in advice:
                 yield "E3 write -> v", (Edit(0, 0, f"var {FRESH}\n"), *put(f"{head[0]} -> {FRESH}"))
-        if first.code == "E7" and (loop := re.compile(r"by (\w+)[^{]*\{([^{}]*)\}").match(self.data.decode(), self.data.find(b"by ", first.start))):
+        if first.code == "E7" and (loop := re.compile(r"(?s)(?:(?!\bby\s).)*by\s+(\w+)[^{]*\{([^{}]*)\}").match(self.data.decode(), first.start)):
             # It is lowered there in place of all that is done.
             yield "E7 lower it once", (Edit(*loop.span(2), f" {loop[1]} = {loop[1]} - 1 "),)
         if first.code == "E14" and (has := re.search(r"the table has (\d+)", first.sentence)):

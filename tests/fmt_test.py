@@ -15,14 +15,13 @@ import unittest
 from support import of_c
 from support.live import TOP, Case
 from camac import library
-from camac.edits import edited
 from camac.layout import LayoutFault, _kept, formatted
 from camac.lsp.documents import Text
 from camac.lsp.protocol import ResponseError
 from camac.lsp.symbols import renamed
 from camac.lsp.workspace import Judge, Judged
 from camac.names import Names
-from camac.texts import SAMPLE, plan_text
+from camac.texts import SAMPLE, edited, plan_text
 from camac.tokens import rows_of, tokens_of
 from oracle.cases import edge_case, script_case
 

@@ -19,14 +19,14 @@ import unittest
 
 from support import of_c
 from support.live import PROGRAM, TOP, Case, script
-from support.seconds import is_within
+from support.program import is_within
 import camac
-from camac.edits import Edit, edited
 from camac.loops.changes import LEAVES_OUT, Kind
 from camac.loops.proposals import put_before_block
 from camac.loops.search import MOST_CALLS, propose, turn_by_turn
 from camac.program import IN_PROCESS, accepts, verdict
 from camac.reader import read_script
+from camac.texts import Edit, edited
 from camac.tree import Loop, all_in
 from oracle.maker.extremes import BY_CHANCE, GREATEST, LEAST, RISEN, SILENT, events
 from oracle.reader.plan import read_plan, sample_plan

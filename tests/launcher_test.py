@@ -15,18 +15,29 @@ import resource
 import select
 import shutil
 import signal
+import statistics
 import subprocess
+import sys
 import threading
 import time
 import unittest
 
 from support.launcher import Case, call, copy, start, toolchain
-from support.needs import has
-from support.program import TOP, folder
+from support.needs import has, needed, skip
+from support.program import PROGRAM, TOP, folder
+
+sys.path.insert(0, f"{TOP}/benchmarks")
+
+import corpus  # noqa: E402
+import sources_sum  # noqa: E402
+import speed  # noqa: E402
 
 VERDICT = "accepted\nservice adc gl 3 cycles 6 of 6 words 1 of 1 steps 4\n"
 NOT_PROVED = "It is not proved; to prove it (about an hour) and keep that: cd crates/camac && rt run\n"
 NEEDED = "bash env readlink find sort stat xargs sha256sum mkdir mv rm cat".split()
+CASES = ("start-up", "check: 1 MB of comments", "run: mixed", "run: nested", "run: scans", "run: calls")
+# The loop over a comment has 3.4 instructions a byte in place of 2.9.
+MOST, OF_COMMENTS = 1.1, 1.15
 COPY = None
 
 
@@ -137,6 +148,20 @@ class Launcher(Case):
             times.append(processor_time() - began)
         print(f"\na later call took {min(times):.3f} to {max(times):.3f} s of processor time", flush=True)
         self.assertLess(min(times), 0.02, "0.005 seconds on a machine that does nothing else")
+
+    @needed("valgrind")
+    def test_3_as_fast_as_the_proved_program(self):
+        """It takes at most a tenth more instructions, in comments a seventh."""
+        if not sources_sum.is_passed():
+            skip("the sources are those of crates.sum")
+        room, programs = str(self.folder()), (PROGRAM, *kept())
+        for case in (it.tenth() for it in speed.cases() if it.name.startswith(CASES)):
+            with self.subTest(case.name):
+                words, _ = case.put(room)
+                proved, built = (speed.instructions([it, *words]) for it in programs)
+                self.assertLess(built, (OF_COMMENTS if "comments" in case.name else MOST) * proved)
+        counts = [[speed.of_shape(texts, it, [""]) for it in programs] for texts in corpus.shapes().values()]
+        self.assertLess(statistics.geometric_mean(built / proved for (proved,), (built,) in counts), MOST)
 
     def test_4_links_folders_and_statuses(self):
         folder = self.folder()

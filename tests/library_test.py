@@ -7,6 +7,7 @@ usage: tests/library_test.py [-v] [TEST ..]     from any folder; takes a minute 
 It needs gcc and the archive that tests/support/of_c.py names, else all is left out. """
 import collections
 import concurrent.futures
+import contextlib
 import functools
 import itertools
 import os
@@ -25,7 +26,7 @@ from support.needs import needed
 from support.program import EVENT_FILE
 import camac
 from camac import Answer, Ending, ProgramFault, Refused, UsageFault, judge, library
-from camac.mock import Adc, Auxiliary, MockBranch, Recorder, Register
+from camac.mock import Adc, Auxiliary, MockBranch, Recorded, Recorder, Register
 from camac.program import lines_of, output_of
 from oracle.maker.plans import make_plan
 from oracle.maker.scripts import make_script
@@ -93,7 +94,44 @@ service adc within 9 cycles event 0 words {
   cclc adc
 }
 """
-ARCHIVE_BYTES = 1_310_000
+PASSED = """cdlam adc 1 1 5 12
+proc twice(a in 0..4095, b in 0..9) within 0 cycles event 1 words steps 4 {
+  b = 7
+  if a > 5 { b = 2 }
+  put b * a
+}
+var v w i u
+service adc within 18 cycles event 6 words {
+  cdreg r 1 1 5 3
+  u = 4
+  cfsa 0 r -> v
+  if q {
+    for i = 0 to 2 { w = i put i }
+    call twice(v, 1)
+    for i = 0 to 1 each { put i }
+  } else {
+    w = 5
+    while w > 0 turns 5 by w { w = w - 1 }
+  }
+  cclc adc
+  if u == 4 { cfsa 0 r -> v }
+  i = 3
+  while i > 0 turns 3 by i { i = i - 1 }
+  cclc adc
+  if w == 2 { cfsa 0 r -> v }
+  cclc adc
+}
+"""
+TURNS = """cdlam adc 1 1 5 12
+var v i
+service adc within 9 cycles event 300 words {
+  cdreg r 1 1 5 3
+  cfsa 0 r -> v
+  if v > 5 { for i = 0 to %d { put i } }
+  cclc adc
+}
+"""
+ARCHIVE_BYTES = 1_335_000
 NEEDED = {"malloc", "realloc", "free", "memcpy", "memmove", "memset"}
 ESONE = """
 void cdreg(int *ext, int b, int c, int n, int a);
@@ -167,6 +205,19 @@ service adc within 50 cycles event 9 words {
 service reg within 50 cycles event 0 words {
   cdreg r 1 1 6 0   cfsa 16 r <- n
   ccci 1 on
+}
+"""
+SHORT_CYCLES = """cdlam adc 1 1 5 12
+var v
+service adc within 50 cycles event 9 words {
+  cdreg a 1 1 5 0
+  cdreg r 1 1 6 0
+  cfsa 0 a -> v
+  cssa 0 a -> v
+  cssa 16 r <- 5
+  cfsa 16 r <- 5
+  cfubc 0 a max 1 tally v
+  cclc adc
 }
 """
 NESTED = "cdlam charge 1 1 1 0\nservice charge within 200 cycles event 0 words {\n  lock 1 {\n    lock 2 { cclc charge }\n  }\n}\n"
@@ -357,8 +408,8 @@ class Calls(Case):
         return of_c.compiled(self.room, name, HERE / f"{name}.c", **how)
 
     def test_a_consumer_writes_what_the_program_writes(self):
-        """Its listing and its event file of random scripts and of the examples are those of `camac run`, byte for byte, and the same answers in lists, and in
-        blocks that end anywhere, do the same. What each service begins with is what was told before its demand."""
+        """Its listing and its event file of random scripts and of the examples are those of `camac run`, byte for byte, and the same answers in lists, in blocks
+        that end anywhere, and in lists with blocks and releases, do the same. What each service begins with is what was told before its demand."""
         pool = concurrent.futures.ProcessPoolExecutor()
         accepted = list(itertools.islice(filter(None, pool.map(accepted_script, range(10 * SCRIPTS), chunksize=20)), SCRIPTS))
         pool.shutdown(cancel_futures=True)
@@ -369,10 +420,11 @@ class Calls(Case):
                 (self.room / f"{k}.{kind}").write_bytes(text)
         status, counts = call(self.program("consumer"), self.room, len(accepted))
         self.assertEqual(status, 0, counts)
-        lists, answers, with_blocks, told_before = map(int, counts.split())
+        lists, answers, with_blocks, told_before, far, behind_blocks, behind_releases = map(int, counts.split())
         self.assertGreater(answers - lists, len(accepted))
         self.assertGreater(told_before, 4 * len(accepted))
-        self.assertGreater(lists - with_blocks, 100)
+        self.assertGreater(lists - max(with_blocks, far), 100)
+        self.assertGreater(min(behind_blocks, behind_releases), 100)
 
         def ran(k):
             words = [self.room / f"{k}.{kind}" for kind in ("plan", "script", "answers", "its_events")]
@@ -384,7 +436,7 @@ class Calls(Case):
         with concurrent.futures.ThreadPoolExecutor(len(os.sched_getaffinity(0))) as pool:
             ends = collections.Counter(pool.map(ran, range(len(accepted))))
         self.assertGreater(min(ends[it] for it in ("ended", "short", "overrun")), 100)
-        print(f"\nends {dict(ends)}, {answers} answers in {lists} lists, {with_blocks} with blocks", flush=True)
+        print(f"\nends {dict(ends)}, {answers} answers in {lists} lists, {with_blocks} with blocks, {far} with blocks in them", flush=True)
 
     def test_codes_sessions_and_threads(self):
         for static in (False, True):
@@ -478,9 +530,9 @@ class Examples(Case):
         status, told = call(program, SAMPLE, EXAMPLES / "all_channels.script")
         self.assertEqual(status, 0, told)
         print(f"\n{told}", end="", flush=True)
-        one, lists, blocks = ([int(it) for it in re.findall(r"\d+", line)] for line in told.splitlines())
-        self.assertEqual((one[:2], lists[:2], blocks[:2]), ([7000, 7000], [7000, 1000], [7000, 1000]))
-        self.assertGreater(lists[2], one[2])
+        one, *lists = ([int(it) for it in re.findall(r"\d+", line)] for line in told.splitlines())
+        self.assertEqual((one[:2], [it[:2] for it in lists]), ([7000, 7000], [[7000, 1000]] * 3))
+        self.assertGreater(lists[0][2], one[2])
 
 
 class Python(Case):
@@ -718,6 +770,28 @@ class Python(Case):
         self.assertEqual(places, [("overrun 1 wait 15", (1, line)) for line in (5, 6, 8)])
         self.assertEqual(self.play(LOCKOUT, DEMAND, Answer(wait=15), on_fault=lambda *_: False).line, "overrun 1 wait 15 events 0")
 
+    def test_a_night_with_faults_is_one_record(self):
+        """A run with faults and waits too long has one answer file: `camac run`, and a branch that plays it again, make its event file. The listing tells what was
+        left, and what sets the crates back is no answer."""
+        script = "cdlam adc 1 1 5 12\nservice adc within 60 cycles event 9 words { ccci 1 on   lock 1 { put 3   cclc adc }   ccci 1 off   cclc adc }\n"
+        zero, cycle, long = Answer(), CYCLE, Answer(wait=15)
+        for left in ([Broken()], [zero, Broken()], [zero, zero, Broken()], [zero, zero, cycle, Broken()], [zero, long], [zero, zero, long], [zero, zero, cycle, long]):
+            whole, back = [DEMAND, zero, zero, cycle, zero, cycle], [cycle] * (len(left) > 1)
+            answers = "".join(f"{it if it == 'abandon' else it.line()}\n" for it in (*whole, DEMAND, *left[:-1], "abandon", *whole))
+            for name in (None, "its.answers"):
+                with open(self.room / name, "w") if name else contextlib.nullcontext() as file:
+                    recorder = Recorder(Listed(*whole, DEMAND, *left, *back, *whole), file)
+                    (self.room / "events").unlink(missing_ok=True)
+                    end = camac.play(SAMPLE, self.write("its.script", script), recorder, self.room / "events", on_fault=lambda *_: True)
+                self.assertEqual((end.line, self.file(name).decode() if name else recorder.answer_lines()), ("ended events 2", answers))
+            listing, events = library.run(self.sample(), script, answers)[:2]
+            self.assertEqual((events, listing.text.count("abandoned service adc\n")), (self.file("events"), 1))
+            for number, by in enumerate((camac.drive, camac.play)):
+                again = self.room / f"{number}.events"
+                again.unlink(missing_ok=True)
+                self.assertEqual(by(SAMPLE, self.room / "its.script", Recorded(self.room / "its.answers"), again, program=PROGRAM).line, "ended events 2")
+                self.assertEqual(again.read_bytes(), self.file("events"))
+
     def test_the_crates_are_set_back_on_fault(self):
         script = "cdlam adc 1 1 5 12\nservice adc within 50 cycles event 0 words { cccz 1   cclc adc }\n"
         self.play(script, DEMAND, CYCLE, Broken(), CYCLE, CYCLE, on_fault=lambda *_: True)
@@ -767,6 +841,9 @@ class Python(Case):
         with library.Session(self.sample(), ARMS) as session:
             session.next(DEMAND)
             self.assertEqual([(it.a, it.f) for it in session.ahead()], [(3, 0), (3, 0), (12, 10)])
+        with library.Session(self.sample(), PASSED) as session:
+            session.next(DEMAND)
+            self.assertEqual([(it.a, it.f) for it in session.ahead()], [(3, 0), (12, 10), (3, 0), (12, 10)])
         with library.Session(self.sample(), LOCKS) as session:
             session.next(DEMAND)
             self.assertEqual([(it.kind, it.waits) for it in session.ahead()], [(library.CYCLE, 2), (library.LOCK, 2), *[(library.CYCLE, 0)] * 2])
@@ -779,6 +856,9 @@ class Python(Case):
             ((EXAMPLES / "all_channels.script").read_text(), [*((1, a, 0, 2) for a in range(12)), (1, 12, 10, 2)]),
             (CALLS, [(1, 3, 0, 2), (1, 4, 0, 2), (1, 12, 10, 2)]),
             (ARMS, [(1, 3, 0, 2), (1, 3, 0, 2), (1, 12, 10, 2)]),
+            (PASSED, [(1, 3, 0, 2), (1, 12, 10, 2), (1, 3, 0, 2), (1, 12, 10, 2)]),
+            (TURNS % 252, [(1, 3, 0, 2), (1, 12, 10, 2)]),  # 4 steps up to the loop, 2 a turn, and that of `cclc`: 511 of 512
+            (TURNS % 253, [(1, 3, 0, 2)]),
             (DECIDES, [(1, 3, 0, 2)]),
             (LOCKS.replace("  cclc adc\n  lock", "  lock", 1), [(1, 0, 0, 2), (1, 3, 0, 0), (1, 12, 10, 0)]),
             (LOCKS, [(1, 12, 10, 2), (1, 0, 0, 2), (1, 3, 0, 0), (1, 12, 10, 0)]),
@@ -898,6 +978,20 @@ class Python(Case):
                 self.assertEqual(found, [(service, line) for line in lines])
                 session.next(Answer(gl=gl))
                 self.assertEqual((session.next(Answer(wait=15)).kind, session.where()), (library.STOPPED, found[0]))
+
+    def test_16_bits(self):
+        """Cycles of `cssa` are told as such, one by one and in lists. Those of a transfer, of a LAM and of the controllers move 24 bits."""
+        cycles = [(5, 0), (5, 1), (6, 1), (6, 0), (5, 0), (5, 0)]
+        with library.Session(self.sample(), SHORT_CYCLES) as session:
+            self.assertEqual([it.is_short for it in session.ahead()], [0])
+            self.assertEqual([(it.n, it.is_short) for it in session.service_ahead(1)], cycles[:4])
+            session.next(DEMAND)
+            for made in range(6):
+                want = session.wants()
+                self.assertEqual((want.n, want.is_short), cycles[made])
+                self.assertEqual([(it.n, it.is_short) for it in session.ahead()], cycles[made:4] if made < 4 else cycles[made : made + 1])
+                session.next(CYCLE)
+            self.assertEqual(session.wants().kind, library.DEMAND)
 
 
 class Package(Case):

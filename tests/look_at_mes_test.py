@@ -168,7 +168,7 @@ class Modules(Answers):
         """Those in the pattern."""
         return [it for it in self.up() if it.is_enabled and it.place[0] not in self.run.branch.silent]
 
-    def next(self):
+    def next(self, in_service=False):
         if len(self.lines) == ANSWERS:
             return None
         words = self.run.requests[-1].split()

@@ -55,13 +55,15 @@ finally:
 # Somebody writes at the place that is the first word, once a command has looked there and makes its new file.
 SAVED = "saved meanwhile\n"
 SAVES = f"""
-import sys, tempfile
-place, make = sys.argv.pop(1), tempfile.mkstemp
-def make_later(*words):
-    with open(place, "a") as out:
-        out.write({SAVED!r})
-    return make(*words)
-tempfile.mkstemp = make_later
+import sys
+from camac import output
+place, make = sys.argv.pop(1), output.new_file
+def make_later(folder, ending=""):
+    if ending == ".new":
+        with open(place, "a") as out:
+            out.write({SAVED!r})
+    return make(folder, ending)
+output.new_file = make_later
 """
 WIDE = STRAIGHT_LINE.decode().replace("within 3 cycles event 1", "within 30 cycles event 10")
 KEEPS = """cdlam adc 1 1 5 12

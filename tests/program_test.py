@@ -1,5 +1,5 @@
 #!/usr/bin/env python3
-"""Tries the built program as a user does: from folders, through pipes, with missing files. Compares it with its pages.
+"""Tries the built program as a user does: by command lines, from folders, through pipes, with missing files. Compares it with its pages.
 
 usage: tests/program_test.py [-v] [TEST ..]     from any folder; takes a few seconds
 """
@@ -8,16 +8,58 @@ import json
 import os
 import re
 import select
+import shutil
 import subprocess
 import time
 
-from support.program import ANSWERS, CLOSED, DEMAND, EVENT_FILE, EVENT_FILE_ONE, FULL, LISTING, PROGRAM, STRAIGHT_LINE, TOO_LONG, TOP, TWICE, VERDICT, Case, fault, keywords, lacks, run_tests, unwritten
+from support.live import CLEARED
+from support.program import ANSWERS, CLOSED, DEMAND, EVENT_FILE, EVENT_FILE_ONE, FULL, LISTING, PROGRAM, STRAIGHT_LINE, TOO_LONG, TOP, TWICE, VERDICT, Case, Room, fault, keywords, lacks, run_tests, unwritten
 import camac.language
 import oracle.reader.tokens
 
 WORDS = {"plan": ["PLAN"], "check": ["PLAN", "SCRIPT"], "explain": ["PLAN|CODE", "[SCRIPT]"], "bounds": ["PLAN", "SCRIPT"], "costs": ["PLAN", "SCRIPT"], "tell": ["PLAN", "SCRIPT"], "response": ["PLAN", "SCRIPT"], "run": ["PLAN", "SCRIPT", "ANSWERS", "EVENTS"], "drive": ["PLAN", "SCRIPT", "EVENTS"], "events": ["FILE"]}
 # The options of a command but those of help, with the values that they take.
 OPTIONS = {"plan": {"commands": ""}, "explain": {"at": "LINE:COLUMN", "turn": "N", "bounds": ""}, "response": {"every": "SERVICE=CYCLES", "within": "SERVICE=CYCLES"}}
+
+
+FILES = {
+    "straight.script": STRAIGHT_LINE,
+    "cleared.script": CLEARED.encode(),
+    # with a cycle less than it can take
+    "greedy.script": STRAIGHT_LINE.replace(b"within 3", b"within 2"),
+    "answers": ANSWERS,
+    # at the limits of a text and of an event file, and above them
+    "whole.text": b" " * 1_048_576,
+    "long.text": b" " * 1_048_577,
+    "whole.events": b" " * 16_777_216,
+    "long.events": b" " * 16_777_217,
+}
+
+
+class CommandLines(Room):
+    """Those of tests/command_lines.text, one after the other in one folder: inputs that are too long, help, and what is not below. The text has each line
+    after '$ camac', then what the program writes to standard output, and its status. Standard input is the straight-line script where a line has '@in' for
+    a script, and else empty."""
+
+    def setUp(self):
+        super().setUp()
+        shutil.copy(TOP / "examples/sample_plan.toml", self.room)
+        for name, data in FILES.items():
+            (self.room / name).write_bytes(data)
+
+    def played(self, line):
+        given = STRAIGHT_LINE if line.split().count("@in") == 1 else b""
+        status, out, _ = self.call(*line.split(), given=given)
+        return f"$ camac {line}\n{out.decode()}status {status}\n"
+
+    def test_each(self):
+        text = (TOP / "tests/command_lines.text").read_text()
+        parts = re.split(r"^(?=\$ camac )", text, flags=re.MULTILINE)[1:]
+        self.assertEqual(len(parts), 29)
+        for part in parts:
+            line = part.partition("\n")[0].removeprefix("$ camac ")
+            with self.subTest(line):
+                self.assertEqual(self.played(line), part)
 
 
 class WorkedRow(Case):

@@ -23,8 +23,7 @@ except ImportError:
 
 from support.live import TOP, Case
 from support.needs import needed
-from support.program import called
-from support.seconds import is_within
+from support.program import called, is_within
 import camac
 from camac import Event, EventFileFault, event_arrays, read_events, whole, whole_size
 

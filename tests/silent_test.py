@@ -18,10 +18,10 @@ import unittest
 from support import of_c
 from support.live import PROGRAM, TOP, Case
 import camac
-from camac.edits import Edit, edited
 from camac.loops.search import propose
 from camac.program import IN_PROCESS
 from camac.reader import read_script
+from camac.texts import Edit, edited
 from camac.warn import Code
 from oracle.maker.beginners import make_beginner
 from oracle.maker.nodes import text_of

@@ -16,7 +16,7 @@ from support.live import PROGRAM, TOP, Case, run_tests
 import camac
 from support import two_crates
 from support.rows import ROWS
-from camac import Cycle, Demand, Ending, Lock, Move, RunEnd, Unlock, bodies, printed, program
+from camac import Cycle, Demand, Ending, Lock, Move, RunEnd, Unlock, bodies, explanations, printed, program
 from camac.commands.annotate import annotate
 from camac.histograms import Bins, Pairs, Series, Spectrum
 from camac.printed import read_headings, read_plan, read_services
@@ -194,7 +194,7 @@ class Printed(Case):
             text, command = row.printed.decode(), row.command.partition(" ")[0]
             lines = text.splitlines()
             if printed.is_refused(text):
-                found = printed.read_explanations(text)
+                found = explanations.read_explanations(text)
                 self.assertEqual(lines, [one for it in found for one in (head_of(it.refusal), *it.lines)])
                 for it in found:
                     told = [*[it.sentence] * bool(it.sentence), *it.advice]
@@ -223,13 +223,13 @@ class Printed(Case):
         head = "cdlam adc 1 1 5 12\nvar v w\n"
         begun = head + "service adc within 3 cycles event 1 words {\n"
         for script, read, wanted in (
-            ("cdlam adc 1 1 5 12\nservcie adc within 3 cycles event 1 words { }", printed.NEAR.find, printed.Near("service", None)),
-            (head + "servcie acd within 3 cycles", printed.NEAR.find, printed.Near("service", "servcie")),
-            (begun + "v = w", printed.read_expected, ["a statement", "an operator", "`}`"]),
-            (begun + "put u", printed.NOT_DECLARED.find, {"kind": "variable"}),
-            (begun + "put 1 put 2\n}\n", printed.read_allowed, ("event", 2)),
-            (begun + "while v > 0 turns 70000 by v { v = v - 1 }\n}\n", printed.read_allowed, ("turns", 65_535)),
-            (begun + "v = 9 while v > 0 turns 3 by v { v = v - 1 }\n}\n", printed.read_allowed, ("turns", 9)),
+            ("cdlam adc 1 1 5 12\nservcie adc within 3 cycles event 1 words { }", explanations.NEAR.find, explanations.Near("service", None)),
+            (head + "servcie acd within 3 cycles", explanations.NEAR.find, explanations.Near("service", "servcie")),
+            (begun + "v = w", explanations.read_expected, ["a statement", "an operator", "`}`"]),
+            (begun + "put u", explanations.NOT_DECLARED.find, {"kind": "variable"}),
+            (begun + "put 1 put 2\n}\n", explanations.read_allowed, ("event", 2)),
+            (begun + "while v > 0 turns 70000 by v { v = v - 1 }\n}\n", explanations.read_allowed, ("turns", 65_535)),
+            (begun + "v = 9 while v > 0 turns 3 by v { v = v - 1 }\n}\n", explanations.read_allowed, ("turns", 9)),
         ):
             told = program.verdict("explain", "@sample", script.encode())
             self.assertEqual(read(told.text), wanted, told.text)

@@ -9,9 +9,9 @@ import re
 from unittest import mock
 
 from support.live import CLEARED, PROGRAM, TOP, Case, run_tests, script
-from support.seconds import is_within
+from support.program import is_within
 import camac
-from camac.edits import edited
+from camac.texts import edited
 from camac.warn import Code
 
 ACCEPTED = re.compile(r"^```camac accepted([^\n]*)\n(.*?)^```$", re.M | re.S)

@@ -97,7 +97,8 @@ enum camac_kind {
     CAMAC_CYCLE = 2,   /* a dataway cycle: x, q and wait count, and word where it reads; of some of the controller's also gl (docs/LIVE.md) */
     CAMAC_LOCK = 3,    /* the lockout of auxiliary controllers in a crate: the wait counts */
     CAMAC_STOPPED = 4, /* none: the run is stopped, by an overrun */
-    CAMAC_BLOCK = 5    /* the cycles of a block transfer, where camac_blocks allows it: an answer for each, as of a cycle */
+    CAMAC_BLOCK = 5,   /* the cycles of a block transfer, where camac_blocks allows it: an answer for each, as of a cycle */
+    CAMAC_UNLOCK = 6   /* the release of a lockout: only in a list, where camac_blocks allows it, and without an answer */
 };
 enum camac_data { CAMAC_NO_DATA = 0, CAMAC_READ = 1, CAMAC_WRITE = 2 };
 
@@ -106,14 +107,15 @@ enum camac_mode {
     CAMAC_Q_STOP = 1,   /* at one address, up to the first Q=0 */
     CAMAC_Q_REPEAT = 2, /* at one address, where Q=0 asks for the same again */
     CAMAC_SCAN = 4,     /* after Q=1 the next sub-address; after A15 and after Q=0 A0 of the next station, up to the final address */
-    CAMAC_WRITES = 8    /* of camac_blocks: also blocks that write */
+    CAMAC_WRITES = 8,   /* of camac_blocks: also blocks that write */
+    CAMAC_IN_LISTS = 16 /* of camac_blocks: lists go on behind blocks, and behind releases of lockouts */
 };
 
 /* What the next answer is for. */
 typedef struct camac_want {
     uint32_t size;
     uint8_t kind;       /* enum camac_kind */
-    uint8_t c, n, a, f; /* of a cycle, and of the first one of a block; of a lock c alone */
+    uint8_t c, n, a, f; /* of a cycle, and of the first one of a block; of a lock and a release c alone */
     uint8_t data;       /* enum camac_data, of a cycle */
     uint8_t waits;      /* the longest wait that its answer may have: any longer one is an overrun. 15 of a demand */
     uint8_t width;      /* of a cycle that reads: how many bits the plan declares, 24 for a controller's; else 0. Of a block its first cycle's */
@@ -121,7 +123,7 @@ typedef struct camac_want {
     uint8_t mode;       /* of a block: CAMAC_Q_STOP, CAMAC_Q_REPEAT or CAMAC_SCAN */
     uint8_t last_n;     /* its final address: of a scan the last one that it may come to, else n and a */
     uint8_t last_a;
-    uint8_t unused;
+    uint8_t is_short;   /* of a cycle: 1 where its statement is cssa, which moves 16 bits; else 0 */
     uint32_t cycles;    /* the most cycles that it still makes */
     uint32_t words;     /* the most of them with Q=1 */
     uint32_t spare[1];
@@ -244,8 +246,9 @@ CAMAC_CALL camac_next(camac_session *s, const camac_answer *answer, camac_progre
 /* The operations that come next, whatever is answered, for a controller that makes lists of commands in one transfer. Writes as many as there is room
  * for, and answers how many: one at least where the run goes on, and CAMAC_AHEAD at most; one, too, while the run may make fewer steps at once than
  * CAMAC_AHEAD_STEPS, since it could pause before the last. 0 where the run is stopped or pauses, or the session is none. The first is that of
- * camac_wants. A list ends before a transfer, a `while`, and an `if` of cycles that answers decide. Before its last answer is taken, no lockout is to
- * be released and no event left. A wait that is not permitted stops the run before the rest. The size of want[0] counts for all. */
+ * camac_wants. A list ends before a `while` of cycles, an `if` of cycles that answers decide, and a block that writes; and before a transfer and the release
+ * of a lockout, unless camac_blocks says CAMAC_IN_LISTS: then blocks and releases are in it. No event is left before its last answer is taken, and no
+ * lockout released but by it. A wait that is not permitted stops the run before the rest. The size of want[0] counts for all. */
 size_t camac_ahead(const camac_session *s, camac_want *want, size_t room);
 
 /* The list with which a service begins, known before its demand, for a controller that plays a stack of its own at a look-at-me: once a demand has called
@@ -259,7 +262,8 @@ CAMAC_CALL camac_service_ahead(const camac_session *s, uint32_t service, camac_w
 CAMAC_CALL camac_next_many(camac_session *s, const camac_answer *answer, camac_progress *progress, size_t count, size_t *taken);
 
 /* Says which blocks your controller makes in one transfer, as a sum of enum camac_mode; at first none, and camac_rewind keeps it. Then camac_wants,
- * camac_step and camac_ahead tell such a block as one want, CAMAC_BLOCK, which has what is left of it. CAMAC_RANGE: no such sum. */
+ * camac_step and camac_ahead tell such a block as one want, CAMAC_BLOCK, which has what is left of it. CAMAC_IN_LISTS says that it makes them as
+ * parts of its lists, too, and there releases lockouts. CAMAC_RANGE: no such sum. */
 CAMAC_CALL camac_blocks(camac_session *s, uint32_t modes);
 
 /* Takes the answers of a block, one after the other: what the run is then, is what camac_next of each makes it. It stops after the one that ends the
@@ -267,6 +271,14 @@ CAMAC_CALL camac_blocks(camac_session *s, uint32_t modes);
  * that was looked at; of those before it nothing was to be released, and no event was left. If the controller made fewer, hand in those: the run wants
  * the rest. CAMAC_MISUSE: no block is wanted. */
 CAMAC_CALL camac_block(camac_session *s, const camac_answer *answer, camac_progress *progress, size_t count, size_t *taken);
+
+/* Takes the answers of a list of camac_ahead, those of its members one after the other: one of an operation, made[i] of the i-th member if that is a
+ * block, and none of a release. progress[i] tells of the i-th member as camac_next and camac_block do; its `unlocked` has the releases that stand in the
+ * list, too. It stops at a member that is not taken or makes the run pause, whose code it gives, and at a block of which the run wants the rest: what
+ * your controller made behind that is none of the run. *taken is how many members were taken whole. The sizes of list[0] and progress[0] count for all,
+ * and each answer has its own. */
+CAMAC_CALL camac_next_list(camac_session *s, const camac_want *list, const size_t *made, const camac_answer *answer, camac_progress *progress,
+                           size_t count, size_t *taken);
 
 /* Writes the words that the block still writes, as many as there is room for, and answers how many there are: that of the first cycle, and after each
  * Q=1 the next one. 0 of a block that reads. */

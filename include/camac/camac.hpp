@@ -238,7 +238,29 @@ public:
         return did;
     }
 
-    // Says which blocks are made in one transfer, a sum of enum camac_mode: then such a block is one want, CAMAC_BLOCK.
+    // The same of a list of `ahead`, of whose members these are the answers: one of an operation, those of its cycles of a block, none of a release. Up to
+    // a block of which the run wants the rest, too. It tells what each member did that was taken whole.
+    progress_list next(const std::vector<camac_want> &list, const std::vector<std::vector<camac_answer>> &made) {
+        std::vector<camac_answer> answers;
+        std::vector<std::size_t> counts;
+        for (const auto &it : made) {
+            const auto kind = counts.size() < list.size() ? list[counts.size()].kind : 0;
+            if (kind == CAMAC_BLOCK ? it.empty() : it.size() != (kind == CAMAC_UNLOCK ? 0 : 1)) fail(CAMAC_MISUSE, "next");
+            answers.insert(answers.end(), it.begin(), it.end());
+            counts.push_back(it.size());
+        }
+        progress_list did;
+        did.resize(made.size(), camac_progress CAMAC_PROGRESS);
+        std::size_t taken = 0;
+        did.code = camac_next_list(&its, list.data(), counts.data(), answers.data(), did.data(), counts.size(), &taken);
+        if (did.code == CAMAC_OVERRUN) its_last = did[taken];
+        if (!taken) test(did.code, "next");
+        its_pause = did.code == CAMAC_BUSY;
+        did.resize(taken);
+        return did;
+    }
+
+    // Says which blocks are made in one transfer, a sum of enum camac_mode: then such a block is one want, CAMAC_BLOCK, with CAMAC_IN_LISTS in lists, too.
     void blocks(std::uint32_t modes) { test(camac_blocks(&its, modes), "blocks"); }
 
     // The words that the block which is wanted still writes; none of one that reads.

@@ -5,10 +5,11 @@ import importlib
 import sys
 from typing import Callable, List, Optional
 
-from camac.commands.running import LOST, STATUS, read_every, refuse_pipes
+from camac.commands.running import LOST, QUICK, RAW, STATUS, read_every, refuse_pipes
 from camac.commands.running import main as run_command
 from camac.output import is_one_of
 
+PROGRAM = "python3 -m camac"
 # Each is a module of camac.commands, which is loaded only if it is asked for.
 COMMANDS = ("check", "draw", "report", "annotate", "csv", "survey", "simulate", "export", "watch", "fmt", "diff", "lsp")
 # The words of a command line that name one file to read.
@@ -21,12 +22,13 @@ variable CAMAC_PROGRAM names."""
 
 
 def make_parser(words: List[str]) -> argparse.ArgumentParser:
-    raw = argparse.RawDescriptionHelpFormatter
-    top = argparse.ArgumentParser(prog="python3 -m camac", description=DESCRIPTION, epilog=STATUS, formatter_class=raw)
-    made = functools.partial(argparse.ArgumentParser, formatter_class=raw)
-    commands = top.add_subparsers(dest="command", metavar="COMMAND", required=True, parser_class=made)  # type: ignore[call-overload]
+    top = argparse.ArgumentParser(prog=PROGRAM, description=DESCRIPTION, epilog=STATUS, formatter_class=QUICK)
+    made = functools.partial(argparse.ArgumentParser, formatter_class=QUICK)
+    commands = top.add_subparsers(dest="command", metavar="COMMAND", required=True, prog=PROGRAM, parser_class=made)  # type: ignore[call-overload]
     for name in words[:1] if words[:1] and words[0] in COMMANDS else COMMANDS:
         importlib.import_module(f"camac.commands.{name}").add_to(commands)
+    for it in (top, *commands.choices.values()):
+        it.formatter_class = RAW if it.epilog else argparse.HelpFormatter
     return top
 
 

@@ -1,5 +1,5 @@
 """What the bound of a body consists of: the rows of `camac costs`, and which part of them is auxiliary controllers' or not needed."""
-from typing import Dict, List, Mapping, NamedTuple, Optional, Sequence
+from typing import Dict, List, Mapping, Optional, Sequence
 
 from camac.language import CYCLES, TRANSFERS
 from camac.printed import read_bodies
@@ -74,14 +74,12 @@ def _times(row: Row, times: int) -> Row:
     return row._replace(times=times * row.times, share=share, waits=times * row.waits, slack=times * row.slack)
 
 
-class Call(NamedTuple):
+class Call:
     """A call that is counted in a bound: its line, what is called with its rows as often as they are made there, how often, and what one
     time costs."""
 
-    line: int
-    body: Body
-    times: int
-    each: int
+    def __init__(self, line: int, body: Body, times: int, each: int) -> None:
+        self.line, self.body, self.times, self.each = line, body, times, each
 
     def promised(self) -> int:
         """The cycles that the heading promises and the body does not need, of all times together."""

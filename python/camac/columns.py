@@ -1,7 +1,7 @@
 """A run with the columns of its words: those of the user's file, else those of its script; beside its record, and with another run laid over it."""
 import os
 import re
-from typing import TYPE_CHECKING, List, Mapping, NamedTuple, Optional, Sequence, Tuple
+from typing import TYPE_CHECKING, List, Mapping, Optional, Sequence, Tuple
 
 import camac
 from camac.drive import File, UsageFault
@@ -15,16 +15,15 @@ if TYPE_CHECKING:
     from camac.words import Column, Words
 
 
-class Naming(NamedTuple):
+class Naming:
     """What a user says of the words of events: a file (words.toml), two names to draw against each other, names with the first and the last number of gates,
     and of regions, the events of another run to draw over these, and the most bins."""
 
-    file: Optional[File] = None
-    pair: Optional[Tuple[str, str]] = None
-    gates: Tuple[Tuple[str, int, int], ...] = ()
-    regions: Tuple[Tuple[str, int, int], ...] = ()
-    over: Optional[File] = None
-    bins: Optional[int] = None
+    def __init__(
+        self, file: Optional[File] = None, pair: Optional[Tuple[str, str]] = None, gates: Sequence[Tuple[str, int, int]] = (),
+        regions: Sequence[Tuple[str, int, int]] = (), over: Optional[File] = None, bins: Optional[int] = None,
+    ) -> None:
+        self.file, self.pair, self.gates, self.regions, self.over, self.bins = file, pair, gates, regions, over, bins
 
 
 def asked_of(naming: Naming, names: "Optional[Words]") -> Asked:
@@ -58,7 +57,7 @@ def gather(
     """A run as `collect` gives it, with what is asked of its words, and with its record compared. Answers show the words of each module, so the names
     of a script are used for an event file alone, and for what is asked. Raises as `collect`, UsageFault if a name is none of a column, and
     WordsFault."""
-    is_named = naming and (naming._replace(bins=None) != Naming() or is_event_file(inputs.source))
+    is_named = naming and (any((naming.file, naming.pair, naming.gates, naming.regions, naming.over)) or is_event_file(inputs.source))
     names = camac.words_of_script(plan, inputs.script, services) if is_named else None
     if naming and naming.file is not None:
         names = camac.read_words(naming.file, services, *([names] if names else []))

@@ -9,7 +9,7 @@ import os
 from typing import TYPE_CHECKING, Counter, Dict, List, NamedTuple, Optional, Sequence, Tuple
 
 from camac.functions import CONTROLLERS, reads
-from camac.values import Contradiction, Cycle, Demand, Ending, Item, Lock, Plan, Response, RunEnd
+from camac.values import Abandoned, Contradiction, Cycle, Demand, Ending, Item, Lock, Plan, Response, RunEnd
 
 if TYPE_CHECKING:
     from camac.drive import Branch, File
@@ -127,6 +127,8 @@ class Contradictions:
         elif isinstance(item, Demand):
             self.answer((), (0, 0, 0, 0, int(line[13:19] or b"0", 16)))
             self.call(self.of.get(item.service or "", 0))
+        elif isinstance(item, Abandoned):
+            self.leave()
 
     def counts_of(self, command: Tuple[int, ...]) -> List[int]:
         """The counts of a command: by the bits of its words, and by NO_X."""
@@ -165,6 +167,12 @@ class Contradictions:
         self.end()
         self.gl, self.number = gl, self.number + (gl > 0)
         self.watch.call(gl, self.number)
+
+    def leave(self) -> None:
+        """The service in progress is left: it leaves no event, and its look-at-me is not cleared."""
+        self.number -= self.gl > 0
+        self.watch.cycles += self.cycles
+        self.gl = self.cycles = 0
 
     def end(self) -> None:
         """The service in progress has ended."""

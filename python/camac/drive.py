@@ -7,6 +7,7 @@ import os
 import select
 from typing import TYPE_CHECKING, List, NamedTuple, NoReturn, Optional, Protocol, Union
 
+from camac.events import Path
 from camac.printed import REFUSAL, read_end, read_request
 from camac.values import Ending, Refusal, Request, RunEnd
 
@@ -16,7 +17,7 @@ if TYPE_CHECKING:
     from camac.record import Recording
     from camac.signals import Signals
 
-File = Union[str, bytes, "os.PathLike[str]", "os.PathLike[bytes]"]
+File = Path
 GREATEST_LINE = 4096
 GREATEST = {"x": 1, "q": 1, "word": 0xFF_FFFF, "wait": 15, "gl": 0xFF_FFFF}
 # The most seconds that a wait of the system takes.
@@ -89,6 +90,17 @@ class Branch(Protocol):
 
     def unlock(self, c: int) -> None:
         """Releases the lockout of crate c."""
+
+
+class Left(Exception):
+    """What a branch raises in a cycle or in the lock of a crate to leave the service in progress: the run goes on at a demand."""
+
+
+def tell_left(branch: object, is_overrun: bool) -> None:
+    """Tells a branch that the service in progress is left, if its class has a method `abandon`; and whether after a wait that was not permitted."""
+    tell = getattr(type(branch), "abandon", None)
+    if tell:
+        tell(branch, is_overrun)
 
 
 STATUS = {Ending.ENDED: 0, Ending.SHORT: 0, Ending.OVERRUN: 1, Ending.REFUSED: 1}
@@ -294,23 +306,33 @@ class _Run:
             return
         if not self.is_open:
             raise ProtocolFault(f"camac wrote a request after the end of its input: {line!r}")
-        if request.kind == "cycle":
-            answer = self.branch.cycle(*request.at)
-        elif request.kind == "lock":
-            answer = self.lockouts.lock(*request.at)
-        else:
-            answer = self.branch.demand()
-            if answer is None:
-                self.is_open = False
-                self.program.stdin.close()
-                return
+        try:
+            if request.kind == "cycle":
+                answer = self.branch.cycle(*request.at)
+            elif request.kind == "lock":
+                answer = self.lockouts.lock(*request.at)
+            else:
+                answer = self.branch.demand()
+                if answer is None:
+                    self.is_open = False
+                    self.program.stdin.close()
+                    return
+        except Left:
+            tell_left(self.branch, False)
+            self.lockouts.release()
+            self.hand_on(b"abandon\n")
+            return
         if answer is None:
             raise TypeError(f"the branch has to answer {line.decode()!r}: only a demand may be without an answer")
         if not isinstance(answer, Answer):
             raise TypeError(f"the branch has to answer {line.decode()!r} with an Answer, not {answer!r}")
         self.seen.answer(request.at[:4], answer)
+        self.hand_on(BYTES % answer)
+
+    def hand_on(self, line: bytes) -> None:
+        """Gives the program a line of answers."""
         try:
-            self.program.stdin.write(BYTES % answer)
+            self.program.stdin.write(line)
         except BrokenPipeError:
             pass  # a program that takes it no more says why at its end
 
@@ -331,12 +353,11 @@ class _Program:
     """The program at work, with its standard streams. Its standard error is kept in a file, so that it can be of any length."""
 
     def __init__(self, words: List[File], timeout: Optional[float]) -> None:
-        # Both take as long to load as all of this package.
+        # It takes long to load.
         import subprocess
-        import tempfile
 
         self.timeout = timeout
-        self.errors = tempfile.TemporaryFile()
+        self.errors = open(os.memfd_create("stderr"), "r+b")
         try:
             # A session of its own: Ctrl-C reaches Python alone, which then ends the run.
             self.process: "subprocess.Popen[bytes]" = subprocess.Popen(

@@ -3,9 +3,13 @@ import contextlib
 import io
 import os
 import struct
-from typing import Any, BinaryIO, Callable, Dict, Iterator, List, NamedTuple, Optional, Tuple, Union
+from typing import TYPE_CHECKING, Any, BinaryIO, Callable, Dict, Iterator, List, NamedTuple, Optional, Tuple, Union
 
-Path = Union[str, bytes, "os.PathLike[str]", "os.PathLike[bytes]"]
+if TYPE_CHECKING:
+    Path = Union[str, bytes, os.PathLike[str], os.PathLike[bytes]]
+else:
+    # The first type in quotes that `typing` reads takes as long as fifteen classes.
+    Path = Union[str, bytes, os.PathLike]
 File = Union[Path, BinaryIO]
 HEADER = 8
 MARKER = 0xCA4D
@@ -19,13 +23,12 @@ MEANINGS = {
 BLOCK = 65_536
 
 
-class Form(NamedTuple):
+class Form:
     """How the head of a record is written: its numbers, and of each field the code of its fault, its place and its size in bytes.
     `unpack` gives marker, bit, event number, cycles, missed and count of the head at a place; cycles and missed None in version one."""
 
-    head: struct.Struct
-    fields: Tuple[Tuple[str, int, int], ...]
-    unpack: Callable[[bytes, int], Tuple[Any, ...]]
+    def __init__(self, head: struct.Struct, fields: Tuple[Tuple[str, int, int], ...], unpack: Callable[[bytes, int], Tuple[Any, ...]]) -> None:
+        self.head, self.fields, self.unpack = head, fields, unpack
 
 
 _HEAD_ONE, _HEAD_TWO = struct.Struct(">HHIH"), struct.Struct(">HHIIHH")

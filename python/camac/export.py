@@ -7,12 +7,11 @@ import json
 import os
 from typing import Any, BinaryIO, Dict, Iterator, List, NamedTuple, Optional, Sequence, Set, Tuple
 
-from camac import export_csv
 from camac.arrays import Array, EventArrays, Events, arrays_of, event_pieces, groups, is_new
 from camac.drive import File, ProgramFault
 from camac.events import GREATEST_COUNT, GREATEST_GL, EventFileFault
 from camac.fits import Check, Fit, refuse
-from camac.output import anything, bytes_output, nothing, Progress, refuse_loss
+from camac.output import anything, bytes_output, nothing, passing_file, Progress, refuse_loss
 from camac.record import Record, Source, beside, read_record, record_checks, texts_of
 from camac.subcommands import check, plan as read_plan
 from camac.texts import script_text
@@ -97,18 +96,11 @@ def learn(given: Given, program: Optional[File] = None) -> About:
 
 def _judge(plan: Source, script: Source, program: Optional[File]) -> Tuple[List[Service], Words]:
     """The services of a script that is given as its text, and what it says of words."""
-    import tempfile
-
     from camac.word_sources import words_of_script
 
-    with tempfile.TemporaryDirectory(prefix="camac-") as room:
-        files = []
-        for name, source in (("plan", plan), ("script", script)):
-            files.append(os.path.join(room, name))
-            with open(files[-1], "wb") as out:
-                out.write(source.data)
-        services = check(files[0], files[1], program)
-        return services, words_of_script(read_plan(files[0], program), files[1], services)
+    with passing_file(plan.data) as its_plan, passing_file(script.data) as text:
+        services = check(its_plan, text, program)
+        return services, words_of_script(read_plan(its_plan, program), text, services)
 
 
 class Series(NamedTuple):
@@ -248,8 +240,10 @@ def checks_of(fit: Fit, about: About) -> List[Check]:
 
 
 def _write_csv(reading: Reading, about: About, outs: Sequence[BinaryIO]) -> None:
+    from camac.export_csv import Table, write_events
+
     *to_tables, to_about = outs
-    export_csv.write_events(reading.pieces(), export_csv.Table(is_new(reading.events), about.sources, about.words), *to_tables)
+    write_events(reading.pieces(), Table(is_new(reading.events), about.sources, about.words), *to_tables)
     units = {name: fields[0].unit for name, fields in about.words.by_name().items()}
     to_about.write((json.dumps({**about.value(), "units": units}, indent=1) + "\n").encode())
 

@@ -11,7 +11,7 @@ from camac.drive import File
 from camac.events import FORMS, HEADER, TWO, Event, EventFileFault, Form, read_further, record_size
 from camac.fits import Fit
 from camac.histograms import Spectrum
-from camac.numbers import is_array, sums
+from camac.numbers import is_array, total
 from camac.runs import Asked, Channel, Channels
 from camac.texts import open_regular
 from camac.values import Contradiction, Service
@@ -37,7 +37,7 @@ class _Bit:
         self.count += len(group.numbers)
         self.words.add_all(group.numbers * 0 + group.size if is_array(group.numbers) else [group.size] * len(group.numbers))
         self.cycles.add_all(group.cycles)
-        self.missed += sums(group.missed).total if len(group.missed) else 0
+        self.missed += total(group.missed)
 
 
 class Counts:

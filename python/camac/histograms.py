@@ -3,7 +3,7 @@ import collections
 import math
 from typing import Counter, Dict, List, NamedTuple, Optional, Tuple
 
-from camac.numbers import Numbers, Sums, added, column_sums, differences, ends, listed, places, scaled, sums, sums_of
+from camac.numbers import Numbers, added, column_sums, differences, ends, listed, places, scaled, sums, sums_of
 
 
 class Bins(NamedTuple):
@@ -48,24 +48,24 @@ class Spectrum:
             return
         counts = places(numbers)
         if counts is not None:
-            self._note(sums_of(counts))
+            self._note(*sums_of(counts))
             self.overflow += int(counts[self.end :].sum())
             self._recent = added(self._recent, counts[: self.end], self.shift)
             return
         numbers = listed(numbers)
-        self._note(sums(numbers))
+        self._note(*sums(numbers))
         inside = [it >> self.shift for it in numbers if it < self.end]
         self.overflow += len(numbers) - len(inside)
         self._counts.update(inside)
 
-    def _note(self, taken: Sums) -> None:
+    def _note(self, entries: int, total: int, squares: int, least: int, greatest: int) -> None:
         """Takes the sums of numbers. An axis without an end doubles, if it does not hold the greatest."""
-        self.count += taken.entries
-        self.total += taken.total
-        self.squares += taken.squares
-        self.least = taken.least if self.least is None else min(self.least, taken.least)
-        self.greatest = taken.greatest if self.greatest is None else max(self.greatest, taken.greatest)
-        while self.is_open and taken.greatest >= self.end:
+        self.count += entries
+        self.total += total
+        self.squares += squares
+        self.least = least if self.least is None else min(self.least, least)
+        self.greatest = greatest if self.greatest is None else max(self.greatest, greatest)
+        while self.is_open and greatest >= self.end:
             self.end *= 2
             if self.end >> self.shift > self.most:
                 self.shift += 1

@@ -3,10 +3,10 @@ import contextlib
 from typing import TYPE_CHECKING, Callable, Dict, List, NamedTuple, Optional, Sequence, Tuple
 
 from camac.drive import File, ProgramFault, Refused, UsageFault, one_line
-from camac.printed import read_explanations
+from camac.explanations import Explanation, read_explanations
 from camac.program import advice_on, output_of
 from camac.texts import TextFile
-from camac.values import Explanation, Service
+from camac.values import Service
 from camac.warn import look
 
 if TYPE_CHECKING:
@@ -95,7 +95,7 @@ def _judge_script(plan: TextFile, name: str, program: Optional[File], writes: bo
 
     def write() -> List[Found]:
         # Few calls need these modules, so they are loaded here.
-        from camac.headings import write_headings
+        from camac.loops.proposals import write_headings
         from camac.loops.search import write_keeps
 
         if keeps:

@@ -1,7 +1,4 @@
-"""The words of the language: what they make, what they begin, and which names follow them."""
-import enum
-from typing import Dict, Tuple
-
+"""The words of the language: what they make, and what they begin."""
 # What makes cycles: one of a function, many of one, and the calls of a crate and of a LAM.
 SINGLE = frozenset(("cfsa", "cssa"))
 TRANSFERS = frozenset(("cfmad", "cfubc", "cfubr"))
@@ -21,31 +18,3 @@ OTHERS = "table within cycles event words steps max limit tally on off else to t
 WORDS = DECLARATIONS | STATEMENTS | frozenset(OTHERS.split())
 # A word of the language behind the last number of a `for` alone, and a name elsewhere.
 EACH = "each"
-
-
-class Kind(enum.Enum):
-    """What a name stands for. A service has the name of its LAM."""
-
-    LAM = "LAM"
-    TABLE = "table"
-    VARIABLE = "variable"
-    PARAMETER = "parameter"
-    REGISTER = "register"
-    PROCEDURE = "procedure"
-
-
-# A lookup in the class takes as long as the rest that is done at a name.
-LAM, TABLE, VARIABLE = Kind.LAM, Kind.TABLE, Kind.VARIABLE
-PARAMETER, REGISTER, PROCEDURE = Kind.PARAMETER, Kind.REGISTER, Kind.PROCEDURE
-# What the next names are after a word, and whether they are declared there.
-AFTER: Dict[str, Tuple[Tuple[Kind, bool], ...]] = {
-    "cdlam": ((LAM, True),),
-    "table": ((TABLE, False),),
-    "proc": ((PROCEDURE, True),),
-    "service": ((LAM, False),),
-    "cdreg": ((REGISTER, True),),
-    "call": ((PROCEDURE, False),),
-    **{it: ((REGISTER, False),) for it in OF_FUNCTIONS},
-    "cfmad": ((REGISTER, False), (REGISTER, False)),
-    **{it: ((LAM, False),) for it in LAM_CALLS},
-}

@@ -5,6 +5,7 @@ what each call of the library does. `camac.native` says where the library is loo
 import contextlib
 import ctypes
 import functools
+import itertools
 import os
 import stat
 from ctypes import byref, c_size_t, c_uint32
@@ -13,12 +14,12 @@ from typing import TYPE_CHECKING, Any, Callable, Iterable, Iterator, List, Mappi
 
 from camac import native
 from camac.contradictions import seen_of
-from camac.drive import Answer, Branch, File, Lockouts, ProgramFault, Refused, UsageFault, branch_of, file_fault
+from camac.drive import Answer, Branch, File, Left, Lockouts, ProgramFault, Refused, UsageFault, branch_of, file_fault, tell_left
 from camac.events import FORMS, HEADER, NEW_FILE
 from camac.signals import Signals
 from camac.values import Ending, RunEnd
 from camac.native import BUSY, EVENT_WORDS, LONG, MISUSE, NO_MEMORY, OK, OVERRUN, REFUSED, SPENT, WRITE, Progress, Want
-from camac.native import BLOCK as BLOCK, Q_REPEAT as Q_REPEAT, Q_STOP as Q_STOP, SCAN as SCAN, WRITES as WRITES
+from camac.native import BLOCK as BLOCK, IN_LISTS as IN_LISTS, Q_REPEAT as Q_REPEAT, Q_STOP as Q_STOP, SCAN as SCAN, UNLOCK as UNLOCK, WRITES as WRITES
 from camac.native import CYCLE as CYCLE, DEMAND as DEMAND, LOCK as LOCK, NO_DATA as NO_DATA, NO_LIMIT as NO_LIMIT, READ as READ, STOPPED as STOPPED
 from camac.native import is_there as is_there, version as version
 from camac.output import holds_bytes
@@ -43,7 +44,8 @@ PAUSED = "{} needs a run that does not pause: go_on comes first"
 LIMIT_RANGE = "limit_steps needs a number from 0 to 4294967295"
 NO_BLOCK = "block needs an open session that wants a block, and an answer"
 NO_DEMAND = "service_ahead needs an open session that wants a demand, and the number of a service, from 1"
-MODES_RANGE = "blocks needs a sum of Q_STOP, Q_REPEAT, SCAN and WRITES"
+NO_LIST = "next_list needs a list of `ahead`: an answer of each operation, one or more of a block, none of a release"
+MODES_RANGE = "blocks needs a sum of Q_STOP, Q_REPEAT, SCAN, WRITES and IN_LISTS"
 # A session makes no more steps at once. They take a tenth of a second at worst; between them other threads run, and signals come.
 STEPS = 5_000
 
@@ -329,8 +331,9 @@ class Session:
 
     def blocks(self, modes: int) -> None:
         """Says which block transfers are made at once: a sum of Q_STOP, Q_REPEAT, SCAN, and WRITES for those that write, too. Then what is left of such a
-        transfer is one want, of kind BLOCK. Raises UsageFault if it is no such sum."""
-        if not 0 <= modes <= Q_STOP + Q_REPEAT + SCAN + WRITES:
+        transfer is one want, of kind BLOCK; with IN_LISTS lists go on behind blocks, and behind releases of lockouts, wants of kind UNLOCK. Raises UsageFault
+        if it is no such sum."""
+        if not 0 <= modes <= Q_STOP + Q_REPEAT + SCAN + WRITES + IN_LISTS:
             raise UsageFault(MODES_RANGE, 2)
         _test("blocks", self._calls.camac_blocks(self._at, modes))
 
@@ -349,6 +352,27 @@ class Session:
             raise UsageFault(NO_BLOCK, 2)
         self._heed("block", code)
         return self._progress, taken.value
+
+    def next_list(self, wants: Iterable[Want], made: Iterable[Iterable[Answer]]) -> List[Progress]:
+        """Takes the answers of a list of `ahead`, those of its members one after the other: one of an operation, those of its cycles of a block, none of a
+        release. Returns what each member did, up to the one that ends the run by an overrun, makes it pause or is not taken, and to a block of which the run
+        wants the rest, which is left out. Raises what `next` raises if the first is not taken, and UsageFault if members and answers do not fit."""
+        listed, answers, taken = list(wants), [list(it) for it in made], c_size_t()
+        listed = listed[: len(answers)]
+        for want, its in itertools.zip_longest(listed, answers):
+            if want is None or not (its if want.kind == BLOCK else len(its) == (want.kind != UNLOCK)):
+                raise UsageFault(NO_LIST, 2)
+        structs, did = _answers(list(itertools.chain(*answers))), (Progress * (len(listed) + 1))()
+        did[0].size = ctypes.sizeof(Progress)
+        self._lines = b""
+        counts = (c_size_t * (len(listed) + 1))(*map(len, answers))
+        code = self._calls.camac_next_list(self._at, (Want * (len(listed) + 1))(*listed), counts, structs, did, len(listed), byref(taken))
+        count = taken.value
+        if count and code == BUSY:
+            code = self._go_through(did[count - 1])
+        if not count:
+            _test("next_list", code, OVERRUN)
+        return list(did[: count + (code == OVERRUN)])
 
     def _heed(self, call: str, code: int) -> int:
         """Goes through the pauses of an answer. Returns the code behind them. Raises the fault of an answer that was not taken."""
@@ -478,7 +502,8 @@ def play(
 
     If an operation raises an exception, or its wait is an Overrun, `on_fault` is called with that and the place of the operation (None at a demand). If
     it returns True, `branch.cycle` sets inhibit and demand output back, the service is left without an event, its lockouts are released, and the run
-    goes on at a demand. Else the run ends, as without `on_fault`.
+    goes on at a demand. Else the run ends, as without `on_fault`. A branch whose class has a method `abandon`, as `camac.mock.Recorder`, is told so before:
+    whether after an Overrun, which is in the place of the last answer.
 
     Returns how the run ended, and raises what `camac.drive` raises, with the texts of the program: what the branch raises, Refused,
     ProgramFault. The lockouts that are held then are released by `branch.unlock`, however the run ends, by a signal too, as `camac.drive` says."""
@@ -552,7 +577,7 @@ class _Game:
         line = f"overrun {progress.c} wait {progress.wait} events {self.events}"
         return RunEnd(Ending.OVERRUN, line, self.events, progress.c, progress.wait)
 
-    def make(self, want: Want) -> Union[Answer, "_Made", None]:
+    def make(self, want: Want) -> Union[Answer, _Made, None]:
         """Has the branch make an operation. Only a demand may be without an answer."""
         kind, c, n, a, f, data = native.read_want(want, native.BEHIND_SIZE)
         answer: Optional[Answer]
@@ -588,8 +613,11 @@ class _Game:
 
     def is_left(self, error: Exception) -> bool:
         """Leaves the service in which an operation failed, if `on_fault` says so: the crates are set back, and all lockouts released."""
-        if not (self.on_fault and self.on_fault(error, self.session.where())):
+        place = self.session.where()
+        if not (isinstance(error, Left) and place) and not (self.on_fault and self.on_fault(error, place)):
             return False
+        if place:
+            tell_left(self.branch, isinstance(error, Overrun))
         for it in self.session.back():
             self.branch.cycle(it.c, it.n, it.a, it.f, None)
         self.session.abandon()

@@ -21,7 +21,7 @@ import random
 import re
 from typing import Dict, Iterable, Iterator, List, Mapping, NamedTuple, Optional, Set, TextIO, Tuple, Union
 
-from camac.drive import Answer, Branch, File
+from camac.drive import Answer, Branch, File, Left, tell_left
 from camac.functions import CONTROLLERS
 from camac.printed import shown
 from camac.subcommands import plan as read_plan
@@ -30,6 +30,8 @@ from camac.values import Declaration, Plan
 Place = Tuple[int, int]
 GREATEST_WORD = 0xFF_FFFF
 ANSWER = re.compile(rb"([01]) ([01]) ([0-9a-fA-F]{6}) ([0-9a-fA-F]) ([0-9a-fA-F]{6})\n?")
+# The line of a service that was left, and what stands for it among answers.
+ABANDON, LEFT = "abandon", Answer()
 INITIALISE, CLEAR = (28, 8, 26), (28, 9, 26)
 INHIBIT_OFF, INHIBIT_ON = (30, 9, 24), (30, 9, 26)
 DEMANDS_OFF, DEMANDS_ON = (30, 10, 24), (30, 10, 26)
@@ -385,6 +387,9 @@ class Faulty:
         self.stuck_1, self.stuck_0, self.ghost_gl, self.left = stuck_1, stuck_0, ghost_gl, silent_after
         self.counts = dict.fromkeys(self.shares, 0)
 
+    def abandon(self, is_overrun: bool) -> None:
+        tell_left(self.branch, is_overrun)
+
     def comes(self, fault: str) -> bool:
         """Whether a fault comes now, which is counted."""
         share = self.shares[fault]
@@ -426,27 +431,49 @@ class Faulty:
 
 
 class Operation(NamedTuple):
-    """What a branch was asked, as the program's line says it, and its answer: None of an unlock, and of a demand that ended the run."""
+    """What a branch was asked, as the program's line says it, and its answer: None of an unlock, of a demand that ended the run, and of a service that was
+    left."""
 
     request: str
     answer: Optional[Answer]
 
+    def line(self) -> str:
+        """Its line in an answer file; none of what has no answer."""
+        return f"{self.answer.line()}\n" if self.answer else f"{ABANDON}\n" if self.request == ABANDON else ""
+
 
 class Recorder:
     """A branch that hands all on to another branch, and keeps it. `answer_lines` is an answer file: `camac run` and `Recorded` play it without
-    the branch, and make the same event file.
+    the branch, and make the same event file. Where `camac.play` leaves a service they have a line `abandon`.
 
     With `file`, a file open for writing text, each answer goes there as its line, and nothing is kept: so a run may be of any length."""
 
     def __init__(self, branch: Branch, file: Optional[TextIO] = None) -> None:
         self.branch, self.file = branch, file
         self.operations: List[Operation] = []
+        # What sets the crates back after a service that was left is no part of the run.
+        self.is_left = False
 
     def keep(self, request: str, answer: Optional[Answer]) -> None:
+        self.is_left = self.is_left and request != "demand"
+        if self.is_left:
+            return
+        made = Operation(request, answer)
         if self.file is None:
-            self.operations.append(Operation(request, answer))
-        elif answer is not None:
-            self.file.write(f"{answer.line()}\n")
+            self.operations.append(made)
+        else:
+            self.file.write(made.line())
+
+    def abandon(self, is_overrun: bool) -> None:
+        """Keeps that the service in progress is left: in the place of the last answer after a wait that was not permitted."""
+        tell_left(self.branch, is_overrun)
+        if is_overrun and self.file:
+            self.file.seek(self.file.tell() - len(Answer().line()) - 1)
+            self.file.truncate()
+        elif is_overrun:
+            self.operations.pop()
+        self.keep(ABANDON, None)
+        self.is_left = True
 
     def demand(self) -> Optional[Answer]:
         answer = self.branch.demand()
@@ -470,12 +497,13 @@ class Recorder:
 
     def answer_lines(self) -> str:
         """The answers, one in a line, as `camac run` reads them."""
-        return "".join(f"{made.answer.line()}\n" for made in self.operations if made.answer)
+        return "".join(it.line() for it in self.operations)
 
 
 class Recorded:
     """A branch that gives the answers of a recorded run, one after another: those of an answer file, of any length. With the plan and the script
-    of that run `camac.play` and `camac.drive` make the same event file. A demand behind the last answer ends the run.
+    of that run `camac.play` and `camac.drive` make the same event file, and leave the services that it left. A demand behind the last answer ends the
+    run.
 
     Raises OSError if the file cannot be read; later, from an operation, ValueError with file and line at a line that is no answer, and
     EOFError if the answers end inside a service, which then leaves no event."""
@@ -483,14 +511,22 @@ class Recorded:
     def __init__(self, file: File) -> None:
         self._answers = _read_answers(file)
         next(self._answers)
+        self._is_left = False
 
     def demand(self) -> Optional[Answer]:
-        return next(self._answers, None)
+        self._is_left = False
+        answer = next(self._answers, None)
+        if answer is LEFT:
+            raise ValueError("the recorded answers leave a service where none is")
+        return answer
 
     def _answer(self) -> Answer:
-        answer = self.demand()
+        answer = next(self._answers, None) if not self._is_left else LEFT
         if answer is None:
             raise EOFError("the recorded answers end inside a service")
+        if answer is LEFT and not self._is_left:
+            self._is_left = True
+            raise Left("the recorded run left its service here")
         return answer
 
     def cycle(self, c: int, n: int, a: int, f: int, data: Optional[int]) -> Answer:
@@ -504,7 +540,7 @@ class Recorded:
 
 
 def _read_answers(file: File) -> Iterator[Optional[Answer]]:
-    """Opens a file and yields None, then its answers."""
+    """Opens a file and yields None, then its answers, and LEFT where a service was left."""
     with open(file, "rb") as lines:
         yield None
         for number, line in enumerate(lines, 1):
@@ -518,6 +554,8 @@ def _read_answers(file: File) -> Iterator[Optional[Answer]]:
 # Many answers of a run are alike.
 @functools.lru_cache(maxsize=65_536)
 def _read_answer(line: bytes) -> Answer:
+    if line.rstrip(b"\n") == ABANDON.encode():
+        return LEFT
     found = ANSWER.fullmatch(line)
     if found is None:
         raise ValueError

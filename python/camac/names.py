@@ -3,7 +3,8 @@ import re
 from bisect import bisect_right
 from typing import Dict, Iterator, List, NamedTuple, Optional, Set, Tuple
 
-from camac.language import AFTER, BODIES, DECLARATIONS, EACH, LAM, PARAMETER, PROCEDURE, REGISTER, TABLE, VARIABLE, WORDS, Kind
+from camac.kinds import AFTER, LAM, PARAMETER, PROCEDURE, REGISTER, TABLE, VARIABLE, Kind
+from camac.language import BODIES, DECLARATIONS, EACH, WORDS
 from camac.tokens import NAME, tokens_of
 
 LONGEST = 32

@@ -13,8 +13,8 @@ NAME = "libcamac.so.0"
 # The version whose structs are here. A library fits whose first two numbers are the same.
 VERSION = 200
 OK, REFUSED, MISUSE, NO_MEMORY, OVERRUN, RANGE, SPENT, LONG, BUSY = range(9)
-DEMAND, CYCLE, LOCK, STOPPED, BLOCK = range(1, 6)
-Q_STOP, Q_REPEAT, SCAN, WRITES = 1, 2, 4, 8
+DEMAND, CYCLE, LOCK, STOPPED, BLOCK, UNLOCK = range(1, 7)
+Q_STOP, Q_REPEAT, SCAN, WRITES, IN_LISTS = 1, 2, 4, 8, 16
 NO_DATA, READ, WRITE = range(3)
 EVENT_WORDS = 4096
 # What `camac_tell` is asked, by the words of the program.
@@ -48,12 +48,13 @@ class SessionStruct(_Sized):
 
 class Want(_Sized):
     """What the next answer is for: `kind`, the longest wait that its answer may have, `waits`, and of a CYCLE `c`, `n`, `a`, `f`, `data`, the
-    `width` of what it reads and the `word` to write, of a LOCK `c`. A BLOCK has those of its first cycle, its `mode`, its final station and sub-address,
-    `last_n` and `last_a`, the most `cycles`, and the most `words` with Q = 1."""
+    `width` of what it reads, the `word` to write and `is_short`, 1 at `cssa`, of a LOCK `c`. A BLOCK has those of its first cycle, its `mode`, its
+    final station and sub-address, `last_n` and `last_a`, the most `cycles`, and the most `words` with Q = 1. An UNLOCK, the release of a lockout in
+    a list, has `c`."""
 
     _fields_ = [
         ("size", c_uint32), *_fields(c_uint8, "kind c n a f data waits width"), ("word", c_uint32),
-        *_fields(c_uint8, "mode last_n last_a unused"), *_fields(c_uint32, "cycles words spare"),
+        *_fields(c_uint8, "mode last_n last_a is_short"), *_fields(c_uint32, "cycles words spare"),
     ]
 
 
@@ -127,6 +128,7 @@ _OF_SESSIONS: Dict[str, List[Any]] = {
     "service_ahead": [_SESSION, c_uint32, POINTER(Want), c_size_t, POINTER(c_size_t)],
     "next": [_SESSION, POINTER(AnswerStruct), POINTER(Progress)],
     **{name: [_SESSION, POINTER(AnswerStruct), POINTER(Progress), c_size_t, POINTER(c_size_t)] for name in ("next_many", "block")},
+    "next_list": [_SESSION, POINTER(Want), POINTER(c_size_t), POINTER(AnswerStruct), POINTER(Progress), c_size_t, POINTER(c_size_t)],
     "blocks": [_SESSION, c_uint32],
     "step": [_SESSION, POINTER(AnswerStruct), POINTER(Progress), POINTER(Want)],
     "limit_steps": [_SESSION, c_uint32],

@@ -4,7 +4,7 @@ import itertools
 import operator
 import sys
 from array import array
-from typing import Any, Dict, Iterable, List, NamedTuple, Optional, Sequence, Tuple
+from typing import Any, Dict, Iterable, List, Optional, Sequence, Tuple
 
 # A list of whole numbers, or an array of numpy, which need not be here.
 Numbers = Any
@@ -12,24 +12,14 @@ Numbers = Any
 DENSE, PLACES = 1 << 16, 8
 
 
-class Sums(NamedTuple):
-    """How many numbers there are, their sum and that of their squares, the least, and the greatest."""
-
-    entries: int
-    total: int
-    squares: int
-    least: int
-    greatest: int
-
-
 def is_array(numbers: Numbers) -> bool:
     return hasattr(numbers, "dtype")
 
 
-def sums(numbers: Numbers) -> Sums:
-    """The sums of one number or more."""
+def sums(numbers: Numbers) -> Sequence[int]:
+    """How many numbers there are, one at least, their sum and that of their squares, the least, and the greatest."""
     numbers = listed(numbers)
-    return Sums(len(numbers), sum(numbers), sum(map(operator.mul, numbers, numbers)), min(numbers), max(numbers))
+    return len(numbers), sum(numbers), sum(map(operator.mul, numbers, numbers)), min(numbers), max(numbers)
 
 
 def listed(numbers: Numbers) -> Sequence[int]:
@@ -65,12 +55,12 @@ def places(numbers: Numbers) -> Numbers:
     return importlib.import_module("numpy").bincount(numbers)
 
 
-def sums_of(counts: Numbers) -> Sums:
+def sums_of(counts: Numbers) -> Sequence[int]:
     """As `sums`, of numbers whose counts by number are given."""
     numpy = importlib.import_module("numpy")
     numbers = counts.nonzero()[0]
     products = counts[numbers] * numbers
-    return Sums(int(counts.sum()), int(products.sum()), int(numpy.dot(products, numbers)), int(numbers[0]), int(numbers[-1]))
+    return (int(counts.sum()), int(products.sum()), int(numpy.dot(products, numbers)), int(numbers[0]), int(numbers[-1]))
 
 
 def added(one: Numbers, other: Numbers, shift: int) -> Numbers:
@@ -123,8 +113,9 @@ def order(places: Numbers, numbers: Numbers) -> Tuple[Numbers, Numbers]:
 
 def chosen(numbers: Numbers, these: Numbers, parts: Sequence[Numbers]) -> List[Numbers]:
     """Of each part what stands where a number is one of these."""
-    wanted = these if is_array(numbers) else {*these}
-    return _where(importlib.import_module("numpy").isin(numbers, these) if is_array(numbers) else [it in wanted for it in numbers], parts)
+    if is_array(numbers):
+        return _where(numbers == these[0] if len(these) == 1 else importlib.import_module("numpy").isin(numbers, these), parts)
+    return _where([*map({*these}.__contains__, numbers)], parts)
 
 
 def within(numbers: Numbers, low: int, last: int, part: Numbers) -> Numbers:
@@ -140,7 +131,7 @@ def above(places: Numbers, numbers: Numbers, limit: int) -> List[Numbers]:
 def _where(are_there: Numbers, parts: Sequence[Numbers]) -> List[Numbers]:
     """Of each part what stands where something is so; nothing of an empty part."""
     if is_array(are_there):
-        return [part[are_there] if len(part) else part for part in parts]
+        return [part[index] if len(part) else part for index in are_there.nonzero() for part in parts]
     return [[*itertools.compress(part, are_there)] for part in parts]
 
 

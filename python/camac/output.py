@@ -118,6 +118,24 @@ def write_made(path: str, text: str, may_replace: bool) -> None:
         out.write(text)
 
 
+def new_file(folder: str, ending: str = "") -> Tuple[int, str]:
+    """Makes a file that nobody else has, open to be read and written, under a new name. (To load `tempfile` takes as long as to judge a script.)"""
+    name = os.path.join(folder, f"camac-{os.urandom(8).hex()}{ending}")
+    return os.open(name, os.O_RDWR | os.O_CREAT | os.O_EXCL | os.O_CLOEXEC, 0o600), name
+
+
+@contextlib.contextmanager
+def passing_file(data: bytes = b"") -> Iterator[str]:
+    """The name of a file with these bytes, which is gone at the end."""
+    descriptor, name = new_file(os.environ.get("TMPDIR") or "/tmp")
+    try:
+        with open(descriptor, "wb") as file:
+            file.write(data)
+        yield name
+    finally:
+        os.remove(name)
+
+
 def _identity(status: os.stat_result) -> Tuple[int, ...]:
     return status.st_dev, status.st_ino, status.st_size, status.st_mtime_ns
 
@@ -166,14 +184,12 @@ def _stream_of(status: os.stat_result) -> Optional[int]:
 @contextlib.contextmanager
 def _replacement(path: str, rule: Rule) -> Iterator[BinaryIO]:
     """A new file, under a name that no other call has, that takes the place of a regular file or of none, if the rule lets it."""
-    import tempfile
-
     place = os.path.realpath(path)
     with _named(path):
         if not os.path.basename(path):
             raise IsADirectoryError(errno.EISDIR, os.strerror(errno.EISDIR))
         _look(path, rule)
-        descriptor, new = tempfile.mkstemp(".new", "camac-", os.path.dirname(place))
+        descriptor, new = new_file(os.path.dirname(place), ".new")
     try:
         with _buffered(descriptor, path) as file:
             yield file

@@ -1,17 +1,19 @@
-"""The one reader of what the program prints: its lines, and the sentences of an explanation, as values."""
+"""The one reader of the lines that the program prints, as values; `camac.explanations` reads the sentences of an explanation."""
 import functools
+import itertools
 import re
-from typing import Any, Callable, Dict, Generic, Iterable, Iterator, List, Optional, Tuple, TypeVar, Union
+from typing import Any, Callable, Dict, Generic, Iterable, Iterator, List, Optional, Tuple, TypeVar
 
 from camac.functions import reads, writes
-from camac.values import Body, BodyKind, Command, Cost, Crate, Cycle, Declaration, Demand, Ending, Explanation, Harm, Heading, Item, Lock, ModuleType, Move
-from camac.values import Near, Plan, Refusal, Request, Response, Row, RunEnd, Service, Station, Step, Unkept, Unlock
+from camac.values import Abandoned, Body, BodyKind, Command, Cost, Crate, Cycle, Declaration, Demand, Ending, Harm, Heading, Item, Lock, ModuleType, Move
+from camac.values import Plan, Refusal, Request, Response, Row, RunEnd, Service, Station, Unkept, Unlock
 
 T = TypeVar("T")
 ORDINALS = "first second third fourth fifth sixth seventh eighth ninth tenth".split()
 # By its name in a form a part, and how it is read.
 PARTS: Dict[str, Tuple[str, Callable[[str], Any]]] = {
-    "number": (r"0|[1-9]\d*", int),
+    "number": (r"\d+", int),
+    "count": (r"0|[1-9]\d*", int),
     "maybe": (r"\d+|-", lambda it: None if it == "-" else int(it)),
     "word": (r"\w+", str),
     "name": (r"\S+", str),
@@ -34,7 +36,7 @@ PARTS: Dict[str, Tuple[str, Callable[[str], Any]]] = {
     "harm": ("|".join(it.value for it in Harm), Harm),
     "each": (r"cycles \d+ words \d+ steps \d+", lambda it: Cost(*map(int, it.split()[1::2]))),
     "cost": (r"\d+ \d+ \d+", lambda it: Cost(*map(int, it.split()))),
-    "about": (r"(?: at \S+ \S+ \S+(?: to \S+ \S+ \S+)?| turns \d+| crate \S+| proc \w+)?", str.lstrip),
+    "about": ("(?: (?:at|turns|crate|proc) .+)?", str.lstrip),
     "quoted": ("[^`]+", str),
     "some": (".*?", str),
     "array": ("command|entry|type|crate|station", str),
@@ -50,11 +52,12 @@ class Form(Generic[T]):
     them, and of the whole text if it has a field `line`."""
 
     def __init__(self, make: Callable[..., T], text: str, has_line: bool = False) -> None:
-        self.make, self.text, self.has_line = make, text, has_line
+        self.make, self.text, self.has_line, begin = make, text, has_line, text.partition("{")[0]
+        self.begin = begin if begin.replace(" ", "").isalpha() else ""
 
     @functools.cached_property
     def pattern(self) -> "re.Pattern[str]":
-        return re.compile(FIELD.sub(lambda it: f"(?P<{it[1]}>{PARTS[it[2] or 'number'][0]})", self.text), re.A | re.M)
+        return re.compile(FIELD.sub(lambda it: f"({PARTS[it[2] or 'number'][0]})", self.text), re.A | re.M)
 
     @functools.cached_property
     def readers(self) -> List[Tuple[str, Callable[[str], Any]]]:
@@ -62,7 +65,7 @@ class Form(Generic[T]):
 
     def read(self, line: str) -> Optional[T]:
         """The value of a whole line; None if it is none of this form."""
-        return self._made(self.pattern.fullmatch(line))
+        return self._made(self.pattern.fullmatch(line)) if line.startswith(self.begin) else None
 
     def find(self, text: str) -> Optional[T]:
         """The value of the first place in a text that has this form."""
@@ -73,9 +76,6 @@ class Form(Generic[T]):
             return None
         fields = {name: None if word is None else read(word) for (name, read), word in zip(self.readers, found.groups())}
         return self.make(line=found[0], **fields) if self.has_line else self.make(**fields)
-
-
-Fields = Form[Dict[str, Any]]
 
 
 SERVICE = Form(Service, "service {name:word} gl {gl} cycles {cycles} of {annotated_cycles} words {words} of {annotated_words} steps {steps}")
@@ -98,12 +98,13 @@ STATION = Form(Station, "station {number} {type:name} gl {gl:maybe}")
 AT = Form(lambda move, **at: (Command(**at), move), "cycle {crate:crate} {station:station} {sub_address:sub} {function:function} {move:move}")
 WORD = re.compile("[0-9a-f]{6}")
 REPLY: "Form[Tuple[int, int, int]]" = Form(lambda x, q, wait: (x, q, wait), "{x:bit} q{q:bit} wait {wait:sub}")
-OTHERS: Tuple["Form[Any]", ...] = (
+OTHERS: "Tuple[Form[Any], ...]" = (
     Form(Demand, "demand {pattern:hex} {service:service}"),
     Form(Lock, "lock {crate:crate} wait {wait:sub}"),
     Form(Unlock, "unlock {crate:crate}"),
+    Form(Abandoned, "abandoned service {service:word}"),
 )
-END = Form(RunEnd, "{how:how}(?: {crate:crate} wait {wait:sub})? events {events}", has_line=True)
+END = Form(RunEnd, "{how:how}(?: {crate:crate} wait {wait:sub})? events {events:count}", has_line=True)
 REQUESTS = (
     Form(lambda **at: Request("cycle", tuple(at.values())), "cycle {c:crate} {n:station} {a:sub} {f:function} (?:in|none|out {data:hex})"),
     Form(lambda: Request("demand"), "demand"),
@@ -111,29 +112,11 @@ REQUESTS = (
     Form(lambda crate: Request("unlock", (crate,)), "unlock {crate:crate}"),
 )
 REFUSAL = Form(Refusal, "refused {code:code}(?: line {line}(?: column {column})?)?: {rule:rest}")
-# Where a refusal begins in what `camac tell` prints, and where the lines of `camac costs` do; and what is before the first look-at-me that is not kept.
-REFUSED, BODIES = re.compile("(?m)^(?=refused )"), re.compile("(?m)^(?:service|proc) \\w+ line ")
-BEFORE_UNKEPT = "\nunkept "
+# Where the lines of `camac costs` begin in what `camac tell` prints, and what is before the first look-at-me that is not kept.
+BODIES, BEFORE_UNKEPT = r"(?m)^(?:service|proc) \w+ line ", "\nunkept "
 # A row by its words; and which of them are its depth, the statement's word, how often it is made, the cycles of one time, and, from there on, its place.
 Words = List[str]
 DEPTH, WORD_OF, TIMES, CYCLES, PLACE_OF = 3, 4, 6, 8, 17
-SOURCE, MARK = re.compile(r" *\d+ \|.*"), re.compile(r" *\| \s*\^")
-# Of sentences.
-NEAR = Form(Near, r"Did you mean `{word:quoted}`(?: instead of `{earlier:quoted}`)?\?")
-MAY_STAND: Fields = Form(dict, r"^Found the end of the script; expected {words:some}\.(?: |$)")
-NOT_DECLARED: Fields = Form(dict, r"is not declared above as an? {kind:word}\b")
-ALLOWED: Tuple["Form[Tuple[str, int]]", ...] = (
-    Form(lambda number, word: (word, number), "may (?:take|keep) {number} {word:unit}, its heading allows"),
-    Form(lambda number: ("turns", number), r"The loop may take {number} turns, and \d+ are allowed"),
-    Form(lambda number: ("turns", number), r"The number after `turns` is \d+, and no loop may take more than {number} turns"),
-)
-PLACE: Fields = Form(dict, "Line {line}, column {column}")
-STEPS = (
-    Form(lambda array, place, of: Step(of or array, "", place), "{array:array} number {place}(?: of `{of:word}`)?"),
-    Form(lambda array, place, of: Step(of or array, "", place), "{place:ordinal} {array:array}(?: of `{of:word}`)?"),
-    Form(Step, "{array:array} `?{name:quoted}`?"),
-    Form(lambda key: Step("", key), "`?{key:word}`?"),
-)
 
 
 def shown(line: str) -> str:
@@ -141,14 +124,14 @@ def shown(line: str) -> str:
     return repr(line if len(line) <= 80 else f"{line[:80]}..")
 
 
-def _first(line: str, forms: Iterable["Form[T]"]) -> Optional[T]:
+def first_of(line: str, forms: "Iterable[Form[T]]") -> Optional[T]:
     """The value of a line by the first of the forms that it has; None if it has none."""
     return next((it for it in (form.read(line) for form in forms) if it is not None), None)
 
 
 def _read(line: str, *forms: "Form[Any]") -> Any:
     """The same of a line that has to have one."""
-    value = _first(line, forms)
+    value = first_of(line, forms)
     if value is None:
         raise ValueError(f"no line of this kind: {shown(line)}")
     return value
@@ -156,8 +139,8 @@ def _read(line: str, *forms: "Form[Any]") -> Any:
 
 def read_services(printed: str) -> List[Service]:
     """What `camac check` prints of an accepted script, and `camac tell` before the lines of `camac costs`."""
-    found = BODIES.search(printed)
-    return [_read(line, SERVICE) for line in printed[: found.start() if found else None].splitlines()[1:]]
+    lines = itertools.takewhile(lambda it: it.split(" ")[2:3] != ["line"], printed.splitlines()[1:])
+    return [_read(it, SERVICE) for it in lines]
 
 
 def read_headings(printed: str) -> List[Heading]:
@@ -199,7 +182,7 @@ def read_rows(printed: str) -> List[List[Words]]:
 
 def costs_in(printed: str) -> str:
     """The lines of `camac costs` in what `camac tell` prints of an accepted script."""
-    found = BODIES.search(printed)
+    found = re.search(BODIES, printed)
     return printed[found.start() :].partition(BEFORE_UNKEPT)[0] if found else ""
 
 
@@ -280,7 +263,7 @@ _read_reply = functools.lru_cache(maxsize=4096)(REPLY.read)
 
 @functools.lru_cache(maxsize=4096)
 def _read_other(line: str) -> Optional[Item]:
-    return _first(line, OTHERS) or read_end(line)
+    return first_of(line, OTHERS) or read_end(line)
 
 
 def read_end(line: str) -> Optional[RunEnd]:
@@ -291,46 +274,11 @@ def read_end(line: str) -> Optional[RunEnd]:
 @functools.lru_cache(maxsize=4096)
 def read_request(line: bytes) -> Optional[Request]:
     """A line of a live run that asks for an operation; None if it is none. A script asks for the same again and again, so they are kept."""
-    return _first(line.decode(errors="replace"), REQUESTS)
+    return first_of(line.decode(errors="replace"), REQUESTS)
 
 
 def is_refused(printed: str) -> bool:
     return printed.startswith("refused ")
-
-
-def read_explanation(printed: str) -> Optional[Explanation]:
-    """What `camac explain` prints of a refusal, or `camac tell` of one; None if it says no refusal."""
-    first, *lines = printed.rstrip("\n").split("\n")
-    refusal = REFUSAL.read(first)
-    if refusal is None:
-        return None
-    texts = [it for it in lines if not SOURCE.fullmatch(it) and not MARK.fullmatch(it)]
-    sentence = texts.pop(0) if texts and not texts[0].startswith(("Why: ", "Fix: ")) else ""
-    return Explanation(refusal, sentence, tuple(texts), tuple(lines))
-
-
-def read_explanations(printed: str) -> List[Explanation]:
-    """The refusals in what `camac tell` prints."""
-    return [it for it in map(read_explanation, REFUSED.split(printed)) if it]
-
-
-def read_expected(printed: str) -> Optional[List[str]]:
-    """What `camac explain` expects in place of the end of a script: words in backquotes, and what it calls by words; None if it is another refusal."""
-    found = MAY_STAND.find(printed)
-    return re.split(", | or ", found["words"]) if found else None
-
-
-def read_allowed(sentence: str) -> Optional[Tuple[str, int]]:
-    """The number that a loop or a heading has to say, with the word before it."""
-    return next((it for it in (form.find(sentence) for form in ALLOWED) if it), None)
-
-
-def read_place(sentence: str) -> Union[Tuple[int, int], List[Optional[Step]]]:
-    """What a sentence on a plan is about: line and column, or the steps to a table or key (None for what is no step)."""
-    at = PLACE.pattern.match(sentence)
-    if at:
-        return int(at["line"]), int(at["column"])
-    return [_first(step, STEPS) for step in sentence.partition(":")[0].split(", ")]
 
 
 def read_known(printed: str) -> Dict[str, List[str]]:

@@ -98,9 +98,8 @@ def lines_of(*words: File, program: Optional[File] = None) -> Iterator[str]:
         yield from _of_library(*words).text.splitlines()
         return
     import subprocess
-    import tempfile
 
-    with tempfile.TemporaryFile() as errors:
+    with open(os.memfd_create("stderr"), "r+b") as errors:
         with subprocess.Popen([found, *words], stdin=subprocess.DEVNULL, stdout=subprocess.PIPE, stderr=errors, bufsize=1 << 16) as started:
             assert started.stdout
             try:

@@ -5,6 +5,7 @@ from typing import Dict, NamedTuple, Optional
 
 from camac.drive import File
 from camac.program import IN_PROCESS, find, version
+from camac.texts import hashed
 
 NOTE = os.path.join("share", "camac", "proof")
 PROVED, NOT_PROVED, NOT_KNOWN = "proved", "not proved", "not known to be proved"
@@ -31,8 +32,6 @@ def proof(program: Optional[File] = None) -> Proof:
 
 @functools.lru_cache(maxsize=None)
 def _proof(file: str) -> Proof:
-    import hashlib
-
     folder, noted = os.path.dirname(file), {}
     # A library is in lib, or one deeper.
     for top in (os.path.dirname(os.path.dirname(folder)), os.path.dirname(folder)):
@@ -43,7 +42,7 @@ def _proof(file: str) -> Proof:
                 noted[digest] = Proof(file, word, note.get("sources", "-"), note.get("kit", "-"))
     with open(file, "rb") as opened:
         # The sum of a program takes long: it is made where there is another to compare it with.
-        return noted.get(hashlib.sha256(opened.read()).hexdigest() if noted else "", Proof(file, NOT_KNOWN))
+        return noted.get(hashed(opened.read()).hexdigest() if noted else "", Proof(file, NOT_KNOWN))
 
 
 def _read(note: str) -> Dict[str, str]:

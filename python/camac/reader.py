@@ -1,7 +1,8 @@
 """Reads a script that is no refused text into a tree."""
 from typing import Callable, Dict, List, Tuple, TypeVar
 
-from camac.language import BODIES, CRATE_CALLS, DECLARATIONS, EACH, LAM, LAM_CALLS, PROCEDURE, SINGLE, TABLE, TRANSFERS, VARIABLE
+from camac.kinds import LAM, PROCEDURE, TABLE, VARIABLE
+from camac.language import BODIES, CRATE_CALLS, DECLARATIONS, EACH, LAM_CALLS, SINGLE, TRANSFERS
 from camac.tokens import cut
 from camac.tree import (
     FLAGS, Assign, Body, Cycle, Expression, For, If, Keep, Lock, Loop, Name, Number, Operation, Part, Plain, Range, Script, SetRegister, Statement,

@@ -2,7 +2,7 @@
 
 Times are the computer's clock, and seconds are measured in this process: from the answer to a demand that calls a service until the next
 demand is asked for, the modules wait for the service (dead time); the rest is spent in demands (live time). No proof says anything of them."""
-import base64
+import binascii
 import collections
 import contextlib
 import json
@@ -13,21 +13,22 @@ import time
 from typing import TYPE_CHECKING, Any, Callable, Dict, List, Mapping, NamedTuple, Optional, Tuple, Union
 
 from camac.contradictions import Contradictions, plan_of
-from camac.drive import Answer, Branch, File, ProgramFault, UsageFault, add_note, file_fault, one_line
+from camac.drive import Answer, Branch, File, ProgramFault, UsageFault, add_note, file_fault, one_line, tell_left
 from camac.events import EventFileFault, read_events
 from camac.fits import Check
 from camac.output import Rule, anything, holds_bytes, output
 from camac.printed import read_responses, read_services
 from camac.program import output_of
 from camac.proof import told
-from camac.signals import Signals, signal_of
-from camac.subcommands import plan, rates
-from camac.texts import plan_text, read_regular, script_text
+from camac.subcommands import rates
+from camac.texts import hashed, plan_text, read_regular, script_text
 from camac.values import Contradiction, RunEnd, Service
 
 if TYPE_CHECKING:
-    from camac.runs import Inputs
+    from camac.runs import Inputs, Run
     from camac.surveys.summary import Summary
+else:
+    Summary = object
 
 FORM = "camac record 1"
 # A longer file is no record: plan, script and verdict are some megabytes at most.
@@ -68,20 +69,18 @@ class Source(NamedTuple):
 
     @property
     def sha256(self) -> str:
-        import hashlib
-
-        return hashlib.sha256(self.data).hexdigest()
+        return str(hashed(self.data).hexdigest())
 
     def value(self) -> Dict[str, str]:
         """As the record has it: the text; of what is no UTF-8, or has a NUL, as may be in comments, the bytes in base 64."""
-        text = {"base64": base64.b64encode(self.data).decode()}
+        text = {"base64": binascii.b2a_base64(self.data, newline=False).decode()}
         with contextlib.suppress(UnicodeDecodeError):
             text = text if b"\0" in self.data else {"text": self.data.decode()}
         return {"name": self.name, "sha256": self.sha256, **text}
 
     @classmethod
     def read(cls, fields: Any) -> "Source":
-        data = base64.b64decode(fields["base64"]) if "base64" in fields else fields["text"].encode()
+        data = binascii.a2b_base64(fields["base64"]) if "base64" in fields else fields["text"].encode()
         source = cls(fields["name"], data)
         if source.sha256 != fields["sha256"]:
             raise ValueError(f"the text of {source.name} is not the one of its SHA-256")
@@ -120,7 +119,7 @@ class Record(NamedTuple):
     counts: Optional[Dict[str, int]] = None
     demands: Optional[float] = None
     services: Optional[float] = None
-    survey: "Optional[Summary]" = None
+    survey: Optional[Summary] = None
     contradictions: Optional[Tuple[Contradiction, ...]] = None
 
     def list_services(self) -> List[Service]:
@@ -245,6 +244,8 @@ def recorded(asked: Union[File, Recording], of: Played, branch: Branch, play: Ca
     """Plays a run, and writes its record: before it begins, while it goes on, and at its end.
 
     Raises what `describe` and the run raise, and ProgramFault if the record cannot be written; a file that holds bytes is none."""
+    from camac.signals import Signals, signal_of
+
     recording = asked if isinstance(asked, Recording) else Recording(asked)
     record = describe(of, recording)._replace(begin=now())
     writer = _Writer(recording.file, record, of)
@@ -285,20 +286,19 @@ def refuse_foreign(file: File) -> None:
             raise file_fault("write", file, OWN_FILE)
 
 
-def write_played(file: File, inputs: "Inputs", may_replace: bool = False, survey: Optional[File] = None) -> None:
-    """Writes the record of a run that is played or read for it: nothing of it is timed. Raises as `describe`, and as `refuse_foreign` unless it
+def write_played(file: File, inputs: "Inputs", run: "Run", may_replace: bool = False, survey: Optional[File] = None) -> None:
+    """Writes the record of a run that was played or read for it: nothing of it is timed. Raises as `describe`, and as `refuse_foreign` unless it
     `may_replace` a file."""
-    from camac.runs import collect, is_event_file
-
-    events = inputs.source if is_event_file(inputs.source) else None
+    events = None if run.has_listing else inputs.source
     record = describe(Played(inputs.plan, inputs.script, events, None), Recording("", survey=survey))
-    run = collect(inputs, plan(inputs.plan), record.list_services())
     counts = collections.Counter(run.gl)
     size = None if events is None else os.path.getsize(events)
     how = run.end.how.value if run.end else None
     of_services = {it.name: counts[it.gl] for it in record.list_services()}
+    # Rates that were told are not in this record.
+    of_plan = tuple(it for it in run.contradictions or () if not it.what.startswith("call ")) if run.has_listing else None
     rule = anything if may_replace else refuse_foreign
-    record = record._replace(told=now(), how=how, line=run.last_line(), size=size, counts=of_services, contradictions=run.contradictions)
+    record = record._replace(told=now(), how=how, line=run.last_line(), size=size, counts=of_services, contradictions=of_plan)
     _write(file, record.text(), rule)
 
 
@@ -365,6 +365,10 @@ class _Watched:
         self.pattern = sum(1 << (it.gl - 1) for it in record.list_services())
         self.demands = self.services = 0.0
         self.since, self.is_serving = time.perf_counter(), False
+
+    def abandon(self, is_overrun: bool) -> None:
+        self.seen.leave()
+        tell_left(self.branch, is_overrun)
 
     def demand(self) -> Optional[Answer]:
         self.count(self.is_serving)

@@ -12,14 +12,16 @@ from camac.functions import CONTROLLERS
 from camac.histograms import Pairs, Series, Spectrum
 from camac.language import TRANSFERS
 from camac.numbers import Numbers, chosen, ends, join, kinds, met, order, scaled, total, whole, within
-from camac.output import Progress
+from camac.output import Progress, passing_file
 from camac.program import knows_command
 from camac.subcommands import costs, run
 from camac.texts import script_text
-from camac.values import Body, Command, Contradiction, Cycle, Demand, Ending, Item, Lock, Move, Plan, Response, Row, RunEnd, Service, Unlock
+from camac.values import Abandoned, Body, Command, Contradiction, Cycle, Demand, Ending, Item, Lock, Move, Plan, Response, Row, RunEnd, Service, Unlock
 
 if TYPE_CHECKING:
     from camac.words import Column, Words
+else:
+    Column = Words = object
 
 Operation = Union[Cycle, Lock, Unlock]
 # The operations that are kept of a service that is shown cycle by cycle.
@@ -44,25 +46,19 @@ class Inputs(NamedTuple):
     source: File
 
 
-class Seen(NamedTuple):
+class Seen:
     """The counts of a number in some services."""
 
-    count: int  # type: ignore[assignment]
-    least: int
-    mean: float
-    most: int
+    def __init__(self, count: int, least: int, mean: float, most: int) -> None:
+        self.count, self.least, self.mean, self.most = count, least, mean, most
 
 
-class SeenOfBit(NamedTuple):
+class SeenOfBit:
     """What was seen of the services of a graded-L bit: their cycles and words, and in all of them together the cycles of auxiliary
     controllers, and those with Q = 0, Q = 0 of transfers, and X = 0, as `Run` has them."""
 
-    cycles: Seen
-    words: Seen
-    waits: int
-    no_q: int
-    of_transfers: int
-    no_x: int
+    def __init__(self, cycles: Seen, words: Seen, waits: int, no_q: int, of_transfers: int, no_x: int) -> None:
+        self.cycles, self.words, self.waits, self.no_q, self.of_transfers, self.no_x = cycles, words, waits, no_q, of_transfers, no_x
 
 
 class Sent:
@@ -98,7 +94,7 @@ class Sent:
 class Cut(NamedTuple):
     """The numbers of a column from the first to the last one."""
 
-    column: "Column"
+    column: Column
     low: int
     last: int
 
@@ -113,15 +109,15 @@ class Cut(NamedTuple):
         return [it for it in found if len(it.numbers)]
 
 
-class Asked(NamedTuple):
+class Asked:
     """What is asked of the words of events: the columns that they have, two of these that are wanted against each other, the most bins, gates that an event
     has to pass, and regions that are measured."""
 
-    names: "Optional[Words]" = None
-    pair: "Optional[Tuple[Column, Column]]" = None
-    bins: Optional[int] = None
-    gates: Tuple[Cut, ...] = ()
-    regions: Tuple[Cut, ...] = ()
+    def __init__(
+        self, names: Optional[Words] = None, pair: Optional[Tuple[Column, Column]] = None, bins: Optional[int] = None, gates: Tuple[Cut, ...] = (),
+        regions: Tuple[Cut, ...] = (),
+    ) -> None:
+        self.names, self.pair, self.bins, self.gates, self.regions = names, pair, bins, gates, regions
 
     def gated(self) -> str:
         """Of which events the words are, as the end of a title."""
@@ -148,7 +144,7 @@ class Channel:
             self.series.add_all(*order(events, numbers))
 
 
-class Channels(Dict["Column", Channel]):
+class Channels(Dict[Column, Channel]):
     """The channels of a run, by their columns. `regions` have the numbers of each region, from its first one on, `pairs` those of two columns that are in
     one event."""
 
@@ -186,13 +182,11 @@ class Channels(Dict["Column", Channel]):
         return [self[it] for gl in sorted(bits) for it in names.columns(gl) if it in self] if names else []
 
 
-class Over(NamedTuple):
+class Over:
     """Another run that is drawn over one: the name of its file, its channels, what its counts are multiplied by, by bit, and what that is for."""
 
-    name: str
-    channels: Channels
-    factors: Dict[int, float]
-    why: str
+    def __init__(self, name: str, channels: Channels, factors: Dict[int, float], why: str) -> None:
+        self.name, self.channels, self.factors, self.why = name, channels, factors, why
 
 
 class Served:
@@ -222,7 +216,7 @@ class Run:
         self.has_listing, self.has_cycles = has_listing, True
         self.gl = array("B")
         self.cycles, self.waits, self.no_q, self.of_transfers, self.no_x, self.locked, self.words = (array("I") for _ in range(7))
-        self.idle = 0
+        self.idle = self.left = 0
         self.end: Optional[RunEnd] = None
         self.fault: Optional[EventFileFault] = None
         self.commands: Dict[Command, Sent] = {}
@@ -321,14 +315,12 @@ def collect(
     if is_event_file(inputs.source):
         made = _read_event_file(inputs.source, services, asked)
     else:
-        import tempfile
-
-        with tempfile.NamedTemporaryFile(suffix=".events") as events, open(inputs.source, "rb") as answers:
+        with passing_file() as events, open(inputs.source, "rb") as answers:
             bodies = costs(inputs.plan, inputs.script, program) if knows_command("costs", program) else []
             meant = transfer_commands(bodies, script_text(inputs.script))
             collector = _Collector(plan, {it.name: it.gl for it in services}, Contradictions(responses), meant, asked)
-            collector.take(run(*inputs, events.name, program=program), answers)
-            made = _compare(collector, events.name, services)
+            collector.take(run(*inputs, events, program=program), answers)
+            made = _compare(collector, events, services)
             made.bodies, made.contradictions = bodies, collector.seen.found(plan)
             if responses:
                 late = made.late = collector.seen.watch.seen()
@@ -386,6 +378,12 @@ class _Collector:
                 service = Served(self.bits.get(item.service or "", 0))
                 self.open = service if item.service else None
                 self.run.idle += item.service is None
+                continue
+            elif isinstance(item, Abandoned):
+                self.seen.cycles = service.cycles
+                self.seen.leave()
+                self.open = None
+                self.run.left += 1
                 continue
             else:
                 self.run.end = item

@@ -10,6 +10,7 @@ from typing import Callable, Dict, List, Mapping, NamedTuple, Optional, Sequence
 
 from camac.drive import Answer, File, UsageFault, drive
 from camac.mock import Declared, MockBranch, Module, Place
+from camac.output import passing_file
 from camac.program import quickest
 from camac.subcommands import plan as read_plan, response
 from camac.values import Plan, RunEnd
@@ -207,10 +208,8 @@ def _run(plan: File, script: File, branch: MockBranch, events: Optional[File]) -
         return library.play(plan, script, branch, events)
     if events is not None:
         return drive(plan, script, branch, events)
-    import tempfile
-
-    with tempfile.NamedTemporaryFile(suffix=".events") as dropped:
-        return drive(plan, script, branch, dropped.name)
+    with passing_file() as dropped:
+        return drive(plan, script, branch, dropped)
 
 
 def curve(plan: File, script: File, setting: Setting, make_modules: Callable[[], Optional[Mapping[Place, Module]]]) -> List[Simulation]:

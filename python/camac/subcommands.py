@@ -2,6 +2,7 @@
 from typing import Iterator, List, Mapping, Optional, Union
 
 from camac.drive import Answer, Branch, File, Refused, branch_of, drive
+from camac.output import passing_file
 from camac.printed import parse_listing, read_headings, read_plan, read_responses, read_services
 from camac.program import EVERY, knows_option, lines_of, output_of, settings
 from camac.values import Body, Heading, Item, Plan, Response, RunEnd, Service
@@ -76,10 +77,8 @@ def call(
     once = _Once(branch_of(branch, plan), bits[service])
     if events is not None:
         return drive(plan, script, once, events, program=program, timeout=timeout)
-    import tempfile
-
-    with tempfile.NamedTemporaryFile(suffix=".events") as dropped:
-        return drive(plan, script, once, dropped.name, program=program, timeout=timeout)
+    with passing_file() as dropped:
+        return drive(plan, script, once, dropped, program=program, timeout=timeout)
 
 
 class _Once:

@@ -1,9 +1,11 @@
 """Plans and scripts by the names that the program knows: files, and `@sample`, the built-in plan. `@in`, standard input, is none here. And regular files
-by names that come from somewhere else: from a client, or of a file that others write; nothing is waited for, whatever is there."""
+by names that come from somewhere else: from a client, or of a file that others write; nothing is waited for, whatever is there. And changes of a text."""
 import errno
+import importlib
 import os
 import stat
-from typing import BinaryIO, List, Optional, Sequence
+import sys
+from typing import Any, BinaryIO, Iterable, List, NamedTuple, Optional, Sequence
 
 from camac.drive import File, ProgramFault, UsageFault, file_fault
 
@@ -62,6 +64,12 @@ def _read(file: File) -> bytes:
     return text
 
 
+def hashed(data: bytes = b"", is_long: bool = False) -> Any:
+    """The SHA-256 of bytes. To load `hashlib` takes as long as a megabyte by the module that some versions of Python have built in."""
+    name = "_sha256" if "_sha256" in sys.builtin_module_names and not is_long else "hashlib"
+    return importlib.import_module(name).sha256(data)
+
+
 def source_lines(script: File) -> List[str]:
     """The lines of a script as the program counts them: by LF alone. A comment may hold any byte; what is no UTF-8 is shown as U+FFFD. Raises OSError
     if it cannot be read."""
@@ -88,3 +96,21 @@ def read_regular(path: File, most: int) -> bytes:
     """The first bytes of a regular file, `most` of them at most. Raises as `open_regular`."""
     with open_regular(path) as file:
         return file.read(most)
+
+
+class Edit(NamedTuple):
+    """A part of a text, from `start` to `end` in bytes, and what takes its place."""
+
+    start: int
+    end: int
+    text: str
+
+
+def edited(text: bytes, edits: Iterable[Edit]) -> bytes:
+    """A text with changes that do not overlap."""
+    parts: List[bytes] = []
+    last = 0
+    for it in sorted(edits):
+        parts += [text[last : it.start], it.text.encode("utf-8", "surrogateescape")]
+        last = it.end
+    return b"".join([*parts, text[last:]])

@@ -4,8 +4,8 @@ import functools
 import re
 from typing import Any, Callable, Dict, Iterator, List, NamedTuple, Optional, Tuple, Union
 
-from camac.printed import read_place
-from camac.values import Declaration, Plan, Step
+from camac.explanations import Step, read_place
+from camac.values import Declaration, Plan
 
 TOKEN = re.compile(
     r"(?P<skip>#[^\n]*|[ \t\r]+)|(?P<line>\n)|\"\"\"(?P<long>.*?)\"\"\"|\"(?P<text>(?:[^\"\\\n]|\\.)*)\"|'(?P<plain>[^'\n]*)'"

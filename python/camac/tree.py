@@ -2,9 +2,9 @@
 
 Statements compare by identity, so that each can be a key. (No dataclasses: they would take a call of camac-check 20 ms.)"""
 import operator
-from typing import Callable, Dict, FrozenSet, Iterator, List, NamedTuple, Optional, Sequence, Tuple, Union
+from typing import TYPE_CHECKING, Callable, Dict, FrozenSet, Iterator, List, NamedTuple, Optional, Sequence, Tuple, Union
 
-from camac.language import Kind
+from camac.kinds import Kind
 from camac.values import Range as Range
 
 OPERATIONS: Dict[str, Callable[[int, int], int]] = {"+": operator.add, "-": operator.sub, "*": operator.mul, "/": operator.floordiv, "%": operator.mod}
@@ -26,10 +26,14 @@ class Name(NamedTuple):
     end: int
 
 
+if not TYPE_CHECKING:
+    Expression = object
+
+
 class Operation(NamedTuple):
     sign: str
-    left: "Expression"
-    right: "Expression"
+    left: Expression
+    right: Expression
     start: int
     end: int
 
@@ -67,7 +71,7 @@ class Statement:
     expressions: List[Expression]
     names: List[str]
     writes: Optional[str] = None
-    blocks: Sequence[List["Statement"]] = ()
+    blocks: "Sequence[List[Statement]]" = ()
 
 
 class Assign(Statement):

@@ -311,6 +311,12 @@ class Unlock(NamedTuple):
     crate: int
 
 
+class Abandoned(NamedTuple):
+    """The service in progress was left without an event: the run goes on at a demand, as if that service had not been called."""
+
+    service: str
+
+
 class Contradiction(NamedTuple):
     """What a plan, or the rate that was told of a service, does not describe: the place ("crate 1 station 5", "GL 9", or the service), what came ("word above
     12 bits"), and how often."""
@@ -348,7 +354,7 @@ class RunEnd(NamedTuple):
         return self.how is Ending.REFUSED and not self.line.startswith("refused A")
 
 
-Item = Union[Demand, Cycle, Lock, Unlock, RunEnd]
+Item = Union[Demand, Cycle, Lock, Unlock, Abandoned, RunEnd]
 
 
 class Request(NamedTuple):
@@ -366,28 +372,3 @@ class Refusal(NamedTuple):
     line: Optional[int]
     rule: str
     column: Optional[int] = None
-
-
-class Explanation(NamedTuple):
-    """What is said of a refusal: of the case ("" if nothing is), the lines that follow, and all lines below the refusal."""
-
-    refusal: Refusal
-    sentence: str
-    advice: Tuple[str, ...]
-    lines: Tuple[str, ...]
-
-
-class Near(NamedTuple):
-    """A word that may be meant in place of the one refused, or of an earlier one."""
-
-    word: str
-    earlier: Optional[str]
-
-
-class Step(NamedTuple):
-    """A step to what a plan's sentence is about: a table of `array` that is known by its name or number, or by its place among them (from 1).
-    Without an array the name is a key."""
-
-    array: str
-    name: str
-    place: int = 0

@@ -1,9 +1,9 @@
 """A page that follows an event file while a run goes on. The server of the standard library gives it, to this computer alone: it writes nothing,
 and answers GET and HEAD of its own addresses."""
 import functools
-import http.server
 import json
 import os
+import socketserver
 import sys
 import threading
 import time
@@ -219,7 +219,7 @@ class Watch:
     def follow_asked(self, look: Look, asked: Asked) -> Follower:
         """What counts the events that are asked for, which may begin a little before. Those of whole runs take their time."""
         follower, behind = self.follower, self.follower.counts.events - look.since
-        make = lambda: Counts(self.about.services, asked._replace(regions=()))
+        make = lambda: Counts(self.about.services, Asked(asked.names, asked.pair, asked.bins, asked.gates))
         if look.seconds or look.events:
             follower = follower.since(follower.before(look.seconds, look.events), make)
             while follower.poll():
@@ -377,14 +377,20 @@ def _draw_rate(rates: Sequence[Tuple[float, float]], span: float) -> Canvas:
     return canvas
 
 
-class Server(http.server.ThreadingHTTPServer):
-    """The server of a page, on this computer alone."""
+def _answer(request: Any, client: Any, server: "Server") -> socketserver.BaseRequestHandler:
+    from camac.watch_http import Handler
 
-    daemon_threads = True
+    return Handler(request, client, server)
+
+
+class Server(socketserver.ThreadingTCPServer):
+    """The server of a page, on this computer alone. What understands HTTP is loaded when a browser asks."""
+
+    allow_reuse_address = daemon_threads = True
 
     def __init__(self, watch: Union[Watch, RunList], port: int) -> None:
         self.watch = watch
-        super().__init__((HOST, port), _Handler)
+        super().__init__((HOST, port), _answer)
 
     def find(self, path: str) -> Optional[str]:
         """The text of a page, or of its parts as JSON; None if there is no such page."""
@@ -412,43 +418,3 @@ class Server(http.server.ThreadingHTTPServer):
 
     def address(self) -> str:
         return f"http://{HOST}:{self.server_address[1]}/"
-
-
-class _Handler(http.server.BaseHTTPRequestHandler):
-    """Answers GET and HEAD of the page and of its parts."""
-
-    server: Server
-    server_version, sys_version = "camac", ""
-    # The seconds after which a silent client is left.
-    timeout = 20
-
-    def do_GET(self) -> None:
-        if self.headers.get("Host", "") not in self.server.hosts():
-            self.answer(403, "text/plain", "This page is for a browser on this computer.\n")
-            return
-        text = self.server.find(self.path)
-        if text is None:
-            self.answer(404, "text/plain", "There is no such page.\n")
-        else:
-            self.answer(200, "text/html" if self.path.endswith("/") else "application/json", text)
-
-    do_HEAD = do_GET
-
-    def answer(self, status: int, kind: str, text: str) -> None:
-        data = text.encode("utf-8", "replace")
-        self.send_response(status)
-        for name, value in (
-            ("Content-Type", f"{kind}; charset=utf-8"),
-            ("Content-Length", str(len(data))),
-            ("Cache-Control", "no-store"),
-            ("X-Content-Type-Options", "nosniff"),
-            ("X-Frame-Options", "DENY"),
-            ("Referrer-Policy", "no-referrer"),
-        ):
-            self.send_header(name, value)
-        self.end_headers()
-        if self.command != "HEAD":
-            self.wfile.write(data)
-
-    def log_message(self, format: str, *args: Any) -> None:
-        """Nothing is logged."""

@@ -1,12 +1,13 @@
 /* consumer.c: what a data acquisition program makes of a run: the listing and the event file of `camac run`. The run is begun again before it is
- * played. Now and then a service is abandoned: what was written since its demand is taken back, and the rest is that of a run without it. Where it
- * stands, each time something is wanted, is a line of the script that can want it. A second session takes the same answers in lists, as long as what
- * it tells ahead, a third one also in blocks, and both do the same. So does camac_run with all of them. What a service begins with was told before its
- * demand.
+ * played. Now and then a service is abandoned: answers and listing have a line of it, after an overrun in the place of the answer. Where it stands, each
+ * time something is wanted, is a line of the script that can want it. A second session takes the same answers in lists, as long as what it tells ahead,
+ * a third one also in blocks, a fourth one in lists with blocks and releases in them, and all do the same. So does camac_run with all of them. What a
+ * service begins with was told before its demand.
  *
  *     consumer FOLDER COUNT     of FOLDER/K.plan and FOLDER/K.script, K below COUNT, it makes K.answers at random, K.listing and K.events, and prints
- *                               how many lists there were, how many answers in them, how many lists with blocks, and how many operations were wanted
- *                               that were told before their demand */
+ *                               how many lists there were, how many answers in them, how many lists with blocks, how many operations were wanted
+ *                               that were told before their demand, how many lists with blocks and releases in them, how many of these had a block
+ *                               behind their first operation, and how many a release */
 #define _POSIX_C_SOURCE 200809L
 #include "common.h"
 #include <stddef.h>
@@ -83,11 +84,13 @@ static int has_word(const text *script, uint32_t line, const char *const *words)
 /* The service in progress stands on a line that wants this. */
 static void stands(const camac_session *s, const camac_want *want, const text *script, uint32_t in_progress) {
     static const char *const cycles[] = {"cfsa", "cssa", "cfmad", "cfubc", "cfubr", "ccc", "ctci", "ctcd", "ctgl", "cclm", "cclc", "ctlm", NULL};
-    static const char *const locks[] = {"lock", NULL};
+    static const char *const locks[] = {"lock", NULL}, *const shorts[] = {"cssa", NULL}, *const others[] = {"cfsa", "cc", "ct", "cfmad", "cfu", NULL};
     uint32_t service = 9, line = 9;
     EXPECT(CAMAC_OK, camac_where(s, &service, &line));
     if (want->kind == CAMAC_DEMAND ? service || line : service != in_progress || !has_word(script, line, want->kind == CAMAC_LOCK ? locks : cycles))
         fail("the service %u stands on line %u", (unsigned)service, (unsigned)line);
+    const int may = want->kind == CAMAC_CYCLE && has_word(script, line, shorts);
+    if (want->is_short > may || want->is_short < (may && !has_word(script, line, others))) fail("line %u moves 16 bits, or not", (unsigned)line);
 }
 
 /* Inhibit, 1, and demand output, 2, of each crate, now and at the last demand that called a service. */
@@ -119,8 +122,14 @@ static void abandon(camac_session *s, camac_want *want, uint32_t room) {
     if (want->kind != CAMAC_DEMAND) fail("no demand is wanted");
 }
 
-static void take_back(FILE *file, long at) {
-    if (fflush(file) || ftruncate(fileno(file), at) || fseek(file, at, SEEK_SET)) fail("a file cannot be written");
+/* Writes that this service is left: in the answers in the place of one whose wait was not permitted. */
+static void tell_left(const camac_session *s, uint32_t service, int is_overrun, FILE *answers, FILE *listing) {
+    camac_service_info info = CAMAC_SERVICE_INFO;
+    const long at = ftell(answers) - (is_overrun ? 20 : 0);
+    if (fflush(answers) || ftruncate(fileno(answers), at) || fseek(answers, at, SEEK_SET)) fail("a file cannot be written");
+    EXPECT(CAMAC_OK, camac_service(s, service, &info));
+    fputs("abandon\n", answers);
+    fprintf(listing, "abandoned service %s\n", info.name);
 }
 
 /* The block that a session is in, as far as it came: by its want, and by the Q of its cycles. */
@@ -130,14 +139,14 @@ typedef struct block {
     int is_over;
 } block;
 
-/* Begins a block; one that was not over goes on. */
-static void begin_block(block *its, const camac_session *s, const camac_want *want) {
+/* Begins a block; one that was not over goes on. Its words are told of the one that is wanted. */
+static void begin_block(block *its, const camac_session *s, const camac_want *want, int is_wanted) {
     if (want->mode == CAMAC_SCAN) its->left.width = want->width;
     if (!its->is_over && memcmp(&its->left, want, sizeof *want)) fail("another block is wanted than the rest of one");
     its->left = *want;
     its->is_over = 0;
     its->made = 0;
-    const size_t count = camac_block_words(s, its->words, CAMAC_EVENT_WORDS);
+    const size_t count = is_wanted ? camac_block_words(s, its->words, CAMAC_EVENT_WORDS) : 0;
     if (want->data == CAMAC_WRITE ? count < want->words : count) fail("a block has %zu words to write", count);
 }
 
@@ -189,7 +198,7 @@ static void gather(struct way *its, const camac_want *want, const camac_answer *
         its->wants[0] = *want;
         its->count = camac_ahead(&its->s, its->wants, room);
         if (!its->count || its->count > room) fail("%zu operations are ahead", its->count);
-        if (is_block(its)) begin_block(&its->block, &its->s, its->wants), its->count = 1 + chance(seed, 2 * its->wants[0].cycles);
+        if (is_block(its)) begin_block(&its->block, &its->s, its->wants, 1), its->count = 1 + chance(seed, 2 * its->wants[0].cycles);
         else if (!its->block.is_over) fail("a block is left");
     }
     if (is_block(its)) is_next(&its->block, want);
@@ -197,11 +206,11 @@ static void gather(struct way *its, const camac_want *want, const camac_answer *
     its->answers[its->used] = *answer;
 }
 
-static void same(struct way *its, int (*call)(const camac_session *, void *, size_t, size_t *), const camac_session *one) {
+static void same_bytes(const camac_session *its, int (*call)(const camac_session *, void *, size_t, size_t *), const camac_session *one) {
     static char bytes[1 << 15], others[1 << 15];
     size_t size, other;
     EXPECT(CAMAC_OK, call(one, bytes, sizeof bytes, &size));
-    EXPECT(CAMAC_OK, call(&its->s, others, sizeof others, &other));
+    EXPECT(CAMAC_OK, call(its, others, sizeof others, &other));
     if (size != other || memcmp(bytes, others, size)) fail("a list tells something else");
 }
 
@@ -227,8 +236,8 @@ static void hand_in(struct way *its, int code, const camac_session *one) {
         if (memcmp(did, its->did, its->used * sizeof *did)) fail("a list does something else");
     }
     if (taken != its->used - (code == CAMAC_OVERRUN)) fail("%zu of %zu answers were taken", taken, its->used);
-    same(its, item, one);
-    same(its, camac_record, one);
+    same_bytes(&its->s, item, one);
+    same_bytes(&its->s, camac_record, one);
     its->lists++, its->all += its->used;
     its->used = 0;
 }
@@ -238,6 +247,74 @@ static void add(struct way *its, int code, const camac_progress *did, const cama
     its->did[its->used++] = *did;
     if (is_block(its) && code != CAMAC_OVERRUN) go_further(&its->block, did->q);
     if (its->used == its->count || code != CAMAC_OK || (is_block(its) && its->block.is_over)) hand_in(its, code, one);
+}
+
+/* A session that takes its answers in lists with blocks and releases in them: the list, how many answers each of its members has and what it did, where it
+ * stands, and after how many answers the list is handed in. */
+static struct far {
+    camac_session s;
+    camac_want list[CAMAC_AHEAD];
+    camac_progress did[CAMAC_AHEAD];
+    size_t made[CAMAC_AHEAD], count, at, used, most;
+    camac_answer answers[ANSWERS + 2];
+    block block;
+    unsigned long lists, with_blocks, with_releases;
+} far;
+
+static int far_is_block(void) { return far.list[far.at].kind == CAMAC_BLOCK; }
+
+/* An answer for the list: what is wanted is what was told ahead, or the next cycle of a block there. */
+static void far_gather(const camac_want *want, const camac_answer *answer, uint32_t *seed) {
+    if (!far.used) {
+        const uint32_t room = chance(seed, 2) ? CAMAC_AHEAD : 1 + chance(seed, CAMAC_AHEAD);
+        far.list[0] = no_want;
+        far.count = camac_ahead(&far.s, far.list, room);
+        if (!far.count || far.count > room) fail("%zu members are ahead", far.count);
+        memset(far.made, 0, sizeof far.made);
+        far.at = 0;
+        far.most = chance(seed, 4) ? ANSWERS : 1 + chance(seed, ANSWERS);
+        if (!far_is_block() && !far.block.is_over) fail("a block is left");
+    }
+    if (!far_is_block() && memcmp(&far.list[far.at], want, sizeof *want)) fail("something else is in a list");
+    if (far_is_block() && !far.made[far.at]) begin_block(&far.block, &far.s, &far.list[far.at], !far.at);
+    if (far_is_block()) is_next(&far.block, want);
+    far.answers[far.used++] = *answer;
+}
+
+/* Hands the list in, whose last answer got this code. */
+static void far_hand_in(int code, const camac_session *one) {
+    static camac_progress did[CAMAC_AHEAD];
+    const size_t members = far.at + (far.at < far.count && far.made[far.at] > 0);
+    size_t taken, blocks = 0, releases = 0;
+    did[0] = no_progress;
+    EXPECT(code, camac_next_list(&far.s, far.list, far.made, far.answers, did, members, &taken));
+    if (taken != far.at) fail("%zu of %zu members were taken", taken, far.at);
+    if (memcmp(did, far.did, members * sizeof *did)) fail("a list with blocks does something else");
+    same_bytes(&far.s, item, one);
+    same_bytes(&far.s, camac_record, one);
+    for (size_t i = 1; i < members; i++) blocks += far.list[i].kind == CAMAC_BLOCK, releases += far.list[i].kind == CAMAC_UNLOCK;
+    far.lists++, far.with_blocks += blocks > 0, far.with_releases += releases > 0;
+    far.used = 0;
+}
+
+/* What `one` did with its last answer, which got this code: what it released is in the list, too, or the list is at its end. */
+static void far_add(int code, const camac_progress *did, const camac_session *one) {
+    far.did[far.at] = *did;
+    far.made[far.at]++;
+    if (code == CAMAC_OVERRUN) {
+        far_hand_in(code, one);
+        return;
+    }
+    if (far_is_block()) go_further(&far.block, did->q);
+    if (!far_is_block() || far.block.is_over) far.at++;
+    for (const uint8_t *c = did->unlocked; *c && far.at < far.count; c++, far.at++) {
+        if (far.list[far.at].kind != CAMAC_UNLOCK || far.list[far.at].c != *c) fail("a list releases another crate than %u", *c);
+        far.did[far.at] = no_progress;
+        far.did[far.at].kind = CAMAC_UNLOCK;
+        far.did[far.at].c = *c;
+    }
+    if (far.at < far.count && (did->event || far.list[far.at].kind == CAMAC_UNLOCK)) fail("a list goes on behind its end");
+    if (far.at == far.count || code != CAMAC_OK || far.used == far.most) far_hand_in(code, one);
 }
 
 /* The lists with which the services begin, as they are told before a demand, and how many operations were wanted since. */
@@ -284,6 +361,7 @@ static int go_on(camac_session *s, int code, camac_want *want, FILE *listing, FI
         put(events, camac_record, s);
         if (did.event) *count = did.event;
         for (int w = 0; w < WAYS; w++) EXPECT(code, camac_go_on(&ways[w].s, &did));
+        EXPECT(code, camac_go_on(&far.s, &did));
     }
     return code == CAMAC_OK ? camac_wants(s, want) : code;
 }
@@ -294,8 +372,6 @@ static void play(camac_session *s, const char *folder, long k, const text *scrip
     camac_want want = CAMAC_WANT;
     camac_progress did = CAMAC_PROGRESS;
     char header[8];
-    FILE *const files[3] = {answers, listing, events};
-    long at[3] = {0, 0, 0};
     uint32_t seed = (uint32_t)k, count = 0, service = 0, used = 0;
     const uint32_t most = chance(&seed, ANSWERS), all = camac_answers_left(s);
     int code = camac_wants(s, &want);
@@ -305,14 +381,15 @@ static void play(camac_session *s, const char *folder, long k, const text *scrip
         camac_answer answer = any_answer(&seed);
         stands(s, &want, script, service);
         is_first(s, &want, service);
-        for (int n = 0; n < 3 && want.kind == CAMAC_DEMAND; n++) at[n] = ftell(files[n]);
         if (want.kind == CAMAC_DEMAND) answer.gl = any_pattern(s, &seed);
         fprintf(answers, "%d %d %06x %x %06x\n", answer.x, answer.q, (unsigned)answer.word, answer.wait, (unsigned)answer.gl);
         const camac_want before = want;
         for (int w = 0; w < WAYS; w++) gather(&ways[w], &want, &answer, &seed);
+        far_gather(&want, &answer, &seed);
         code = camac_step(s, &answer, &did, &want);
         if ((code == CAMAC_OVERRUN) != (answer.wait > before.waits)) fail("a wait of %u gives %d, where %u is the longest", answer.wait, code, before.waits);
         for (int w = 0; w < WAYS; w++) add(&ways[w], code, &did, s);
+        far_add(code, &did, s);
         put(listing, item, s);
         put(events, camac_record, s);
         if (code == CAMAC_OK || code == CAMAC_BUSY) {
@@ -331,12 +408,16 @@ static void play(camac_session *s, const char *folder, long k, const text *scrip
             EXPECT(CAMAC_OK, camac_abandon(&ways[w].s, NULL, 0, NULL));
             ways[w].block.is_over = 1;
         }
+        if (far.used) far_hand_in(CAMAC_OK, s);
+        EXPECT(CAMAC_OK, camac_abandon(&far.s, NULL, 0, NULL));
+        far.block.is_over = 1;
         abandon(s, &want, chance(&seed, CAMAC_CRATES + 1));
+        tell_left(s, service, code == CAMAC_OVERRUN, answers, listing);
         code = CAMAC_OK;
-        for (int n = 0; n < 3; n++) take_back(files[n], at[n]);
     }
     for (int w = 0; w < WAYS; w++)
         if (ways[w].used) hand_in(&ways[w], CAMAC_OK, s);
+    if (far.used) far_hand_in(CAMAC_OK, s);
     if (code == CAMAC_OVERRUN) fprintf(listing, "overrun %d wait %d events %u\n", did.c, did.wait, (unsigned)count);
     else fprintf(listing, "%s events %u\n", want.kind == CAMAC_DEMAND ? "ended" : "short", (unsigned)count);
     if (fclose(answers) || fclose(listing) || fclose(events)) fail("a file cannot be written");
@@ -368,6 +449,10 @@ int main(int words_count, char **words) {
             EXPECT(CAMAC_OK, camac_blocks(&ways[w].s, w ? chance(&seed, 16) : 0));
             ways[w].block.is_over = 1;
         }
+        far.s = none;
+        open_session(&far.s, &plan, &script);
+        EXPECT(CAMAC_OK, camac_blocks(&far.s, CAMAC_IN_LISTS + chance(&seed, 16)));
+        far.block.is_over = 1;
         for (camac_want want = CAMAC_WANT; chance(&seed, 30) && camac_wants(&s, &want) == CAMAC_OK;) {
             camac_progress did = CAMAC_PROGRESS;
             camac_answer answer = any_answer(&seed);
@@ -378,12 +463,14 @@ int main(int words_count, char **words) {
         const uint32_t most = chance(&seed, 2) ? CAMAC_NO_LIMIT : chance(&seed, 20);
         EXPECT(CAMAC_OK, camac_limit_steps(&s, most));
         for (int w = 0; w < WAYS; w++) EXPECT(CAMAC_OK, camac_limit_steps(&ways[w].s, most));
+        EXPECT(CAMAC_OK, camac_limit_steps(&far.s, most));
         play(&s, words[1], k, &script);
         run(words[1], k, &plan, &script);
         camac_close(&s);
         for (int w = 0; w < WAYS; w++) camac_close(&ways[w].s);
+        camac_close(&far.s);
         free(plan.bytes), free(script.bytes);
     }
-    printf("%lu %lu %lu %lu\n", ways[0].lists, ways[0].all, ways[1].lists, told_before);
+    printf("%lu %lu %lu %lu %lu %lu %lu\n", ways[0].lists, ways[0].all, ways[1].lists, told_before, far.lists, far.with_blocks, far.with_releases);
     return 0;
 }

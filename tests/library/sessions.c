@@ -124,7 +124,7 @@ static void blocks(camac_session *s) {
     size_t taken = 9;
     spoil(&did, sizeof did);
     EXPECT(CAMAC_MISUSE, camac_blocks(NULL, CAMAC_SCAN));
-    EXPECT(CAMAC_RANGE, camac_blocks(s, 2 * CAMAC_WRITES));
+    EXPECT(CAMAC_RANGE, camac_blocks(s, 2 * CAMAC_IN_LISTS));
     EXPECT(CAMAC_OK, camac_blocks(s, CAMAC_Q_STOP | CAMAC_Q_REPEAT | CAMAC_SCAN | CAMAC_WRITES));
     EXPECT(CAMAC_MISUSE, camac_block(s, &no_answer, &did, 1, &taken));
     expect_zeros(&did, &no_progress, sizeof did, __LINE__);

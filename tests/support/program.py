@@ -8,6 +8,7 @@ import re
 import subprocess
 import sys
 import tempfile
+import time
 import unittest
 
 TOP = pathlib.Path(__file__).resolve().parent.parent.parent
@@ -123,3 +124,18 @@ def keywords():
     for file in TOP.glob("crates/*/src/words.rt"):
         found += re.findall(r'b"(\w+)" => [A-Z]', file.read_text())
     return found
+
+
+def measured(action):
+    """The seconds of processor time that `action()` takes."""
+    began = time.process_time()
+    action()
+    return time.process_time() - began
+
+
+def is_within(most, action):
+    """Whether one of three calls of `action` takes at most so many seconds of processor time.
+
+    A second of a busy or slow processor is worth less, so a loop of a tenth of a second is measured beside each call.
+    """
+    return any(measured(action) <= most * max(1, 10 * measured(lambda: sum(len(b"%d 1" % it) for it in range(400_000)))) for _ in range(3))

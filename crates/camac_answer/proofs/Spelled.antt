@@ -5,8 +5,10 @@ use Rattle.std.proofs.lemmas.List.Sums.{take_while-cons}
 use Rattle.camac_branch.specs.Branch.{Answer}
 use Rattle.camac_answer.specs.declared.fault.AnswerRule.{AnswerRule}
 use Rattle.camac_answer.specs.declared.fault.AnswerRule.TheVariants.{LineShape, BadDigit}
-use Rattle.camac_answer.specs.Lines.{has_shape, is_inside, first_line, IsJudged, bit_at, word_at, wait_at, digit_number, fields_after, fields_answer, line_answer, ◌>>=◌}
+use Rattle.camac_answer.specs.Lines.{has_shape, is_inside, first_line, IsJudged, bit_at, word_at, wait_at, digit_number, fields_after, fields_answer, line_answer, as_given, line_given, is_abandon, ◌>>=◌}
+use Rattle.camac_answer.specs.declared.given.Given.TheVariants as gives
 use Rattle.camac_answer.proofs.Digits.{listed, word_small}
+use Rattle.camac_answer.proofs.Readings.{answer_long, no_answer}
 
 abbrev AreInside : List ℕ → Type 0
 AreInside [] = Unit {0}
@@ -100,7 +102,7 @@ nineteen_spelled bytes a long lf h =
     first_spelled bytes (take 19 bytes) a parts (length-take-le 19 bytes (omega (arith, long))) h
 
 -- the first line, by its length
-first_taken : (bytes : List ℕ) → take (length (first_line bytes)) bytes ≡ first_line bytes
+pub first_taken : (bytes : List ℕ) → take (length (first_line bytes)) bytes ≡ first_line bytes
 first_taken [] = refl
 first_taken (b ∷ bs) = subst P (sym (take_while-cons is_inside b bs)) (by (is_inside b) (first_taken bs))
   where
@@ -151,3 +153,15 @@ unflagged_by line false e h = refl
 pub unflagged : (line : List ℕ) → (has_shape line ≡ true → (bit_at (slice_index line 0) ≡ Err BadDigit) ⊎ (bit_at (slice_index line 2) ≡ Err BadDigit))
     → line_answer line ≡ Err (cond (has_shape line) BadDigit LineShape)
 unflagged line h = unflagged_by line (has_shape line) refl h
+
+-- What a line gives: an answer is no `abandon`.
+pub given_answer : (line : List ℕ) (a : Answer) → line_answer line ≡ Ok a → Ok (gives.Answer a) ≡ line_given line
+given_answer line a e =
+    let long = answer_long line a e in
+    sym (no_answer line (λ seven. omega (arith, long, seven)) ∙ ap as_given e)
+
+pub given_abandon : (line : List ℕ) → true ≡ is_abandon line → Ok gives.Abandon ≡ line_given line
+given_abandon line e = rw (← e) refl
+
+pub given_rule : (line : List ℕ) (rule : AnswerRule) → line_answer line ≡ Err rule → false ≡ is_abandon line → Err rule ≡ line_given line
+given_rule line rule e h = rw (← h, e) refl

@@ -1,10 +1,13 @@
--- The lines of an answer text, and the answer that a line spells.
-use Rattle.std.specs.Prelude.{◌≡◌, ◌⊎◌, ℕ, ◌*◌, ◌^◌, Bool, true, false, ◌==◌, ◌&&◌, not, List, [], ◌∷◌, length, take_while, slice_index, slice_range, Option, Some, None, Result, Ok, Err, if◌then◌else◌}
+-- The lines of an answer text, and what a line gives.
+use Rattle.std.specs.Prelude.{◌≡◌, ◌⊎◌, ◌≤◌, ℕ, ◌*◌, ◌^◌, Bool, true, false, ◌==◌, ◌&&◌, not, List, [], ◌∷◌, length, take_while, slice_index, slice_range, nat_eq, codes, Option, Some, None, Result, Ok, Err, if◌then◌else◌}
+use Rattle.std.specs.List.{starts_with}
 use Rattle.byteorder.specs.Endian.{big_number}
 use Rattle.hex.specs.Hex.{decode_sized, hex_digit_value}
 use Rattle.hex.specs.declared.error.FromHexError.{FromHexError}
 use Rattle.camac_branch.specs.Branch.{Answer}
 use Rattle.camac_answer.specs.declared.fault.AnswerRule.{AnswerRule}
+use Rattle.camac_answer.specs.declared.given.Given.{Given}
+use Rattle.camac_answer.specs.declared.given.Given.TheVariants as gives
 use Rattle.camac_answer.specs.declared.fault.AnswerRule.TheVariants.{LineShape, BadDigit}
 
 -- a byte at the start of the first line
@@ -84,3 +87,19 @@ fields_answer line = do
 -- what a line without its LF spells
 abbrev pub line_answer : List ℕ → Result Answer AnswerRule
 line_answer line = if has_shape line then fields_answer line else Err LineShape
+
+-- the line `abandon`
+abbrev pub is_abandon : List ℕ → Bool
+is_abandon line = length line == 7 && starts_with nat_eq line (codes "abandon")
+
+abbrev pub as_given : Result Answer AnswerRule → Result Given AnswerRule
+as_given (Ok a) = Ok (gives.Answer a)
+as_given (Err rule) = Err rule
+
+-- what a line without its LF gives: the answer that it spells, or that the service in progress is left
+abbrev pub line_given : List ℕ → Result Given AnswerRule
+line_given line = if is_abandon line then Ok gives.Abandon else as_given (line_answer line)
+
+-- no more than the eight bytes of the line `abandon` was read, where an LF ends them
+abbrev pub IsNoMore : List ℕ → ℕ → Type 0
+IsNoMore line n = slice_index line 7 ≡ 10 → n ≤ 8

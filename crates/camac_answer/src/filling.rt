@@ -1,11 +1,11 @@
 // Reading no further than a line.
 
-ghost use Rattle.std.specs.Prelude.{◌≡◌, ◌≤◌, ◌<◌, ◌||◌, ℕ, Bool, List, Option, length, take, is_err, IfOk, OnErr};
+ghost use Rattle.std.specs.Prelude.{◌≡◌, ◌≤◌, ◌<◌, ◌||◌, ◌⊎◌, ℕ, Bool, List, Option, length, take, is_err, IfOk, OnErr};
 ghost use Rattle.std.specs.Io.{ReadsAtMost};
 ghost use Rattle.std.specs.Io.KnownBytes.{Consumes, IsAtEnd, ReadConsumes};
 ghost use Rattle.camac_word.specs.Watched.{inner_of, has_failed};
 ghost use Rattle.camac_answer.specs.Answers.{IsOpen};
-ghost use Rattle.camac_answer.specs.Lines.{first_line};
+ghost use Rattle.camac_answer.specs.Lines.{first_line, IsNoMore};
 
 use crate::line::line_length;
 use camac_word::Watched;
@@ -17,7 +17,7 @@ use std::io::Read;
 pub struct ReadFailed;
 
 /// A reader that remembers whether one of its calls has failed: any watched reader, or one that reads ahead.
-pub trait AnswerReader {
+pub trait TextReader {
     /// The bytes that it has left, where they are known.
     ghost remaining: { Self → Option (List ℕ) };
 
@@ -31,7 +31,7 @@ pub trait AnswerReader {
         ensures failed { failed self.new ≡ (failed self.old || is_err result) };
 }
 
-impl<R: Read> AnswerReader for Watched<R> {
+impl<R: Read> TextReader for Watched<R> {
     ghost remaining = { λ w. R.remaining (inner_of w) };
 
     ghost failed = { λ w. has_failed w };
@@ -45,18 +45,24 @@ impl<R: Read> AnswerReader for Watched<R> {
 /// How many bytes an answer's line has with its LF (own). Any line that is longer is wrong, whatever else it holds.
 pub const LINE: usize = 20;
 
+/// How many bytes the line `abandon` has with its LF (own).
+pub const ABANDON: usize = 8;
+
 /// Fills the line with so many bytes as it has, or those up to the piece that has an LF, or all that are left, and tells how many they are.
-pub fn fill<R: AnswerReader>(reader: &mut R, line: &mut [u8]) -> Result<usize, ReadFailed>
+/// Of what follows the line `abandon` nothing is read.
+pub fn fill<R: TextReader>(reader: &mut R, line: &mut [u8]) -> Result<usize, ReadFailed>
     ensures within { IfOk result (λ n. n ≤ length line.old) }
     ensures len { length line.new ≡ length line.old }
     ensures bytes { IfOk result (λ n. Consumes (R.remaining reader.old) (R.remaining reader.new) (take n line.new)) }
     ensures short { IfOk result (λ n. n < length line.old → n ≤ length (first_line (take n line.new)) → IsAtEnd (R.remaining reader.new)) }
+    ensures no_more { IfOk result (λ n. IsNoMore line.new n) }
     ensures open { OnErr result (IsOpen (length line.old) (R.remaining reader.old) (R.remaining reader.new)) }
     ensures failed { R.failed reader.new ≡ (R.failed reader.old || is_err result) }
 {
     let mut len = 0;
     'pieces: while len < line.len() && (len == 0 || line_length(&line[..len]) >= len) {
-        let Ok(taken) = reader.read_piece(&mut line[len..]) else {
+        let end = piece_end(len, line.len());
+        let Ok(taken) = reader.read_piece(&mut line[len..end]) else {
             return Err(ReadFailed);
         };
         if taken == 0 {
@@ -65,4 +71,19 @@ pub fn fill<R: AnswerReader>(reader: &mut R, line: &mut [u8]) -> Result<usize, R
         len += taken;
     }
     Ok(len)
+}
+
+// How far a piece of a line may reach that begins there: not beyond the line `abandon`, where it is not known to be longer.
+#[inline(always)]
+fn piece_end(start: usize, most: usize) -> usize
+    requires { start < most }
+    ensures later { start < result }
+    ensures within { result ≤ most }
+    ensures no_more { (result ≤ 8) ⊎ (8 ≤ start) }
+{
+    if start < ABANDON && ABANDON < most {
+        ABANDON
+    } else {
+        most
+    }
 }

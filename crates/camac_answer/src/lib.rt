@@ -4,8 +4,10 @@
 mod answers;
 mod fault;
 mod filling;
+mod given;
 mod line;
 
 pub use answers::{FILE_ANSWERS, LIVE_ANSWERS, answers_are_few, judge, judged_by};
 pub use fault::{AnswerFault, AnswerRule};
-pub use filling::{AnswerReader, LINE, ReadFailed, fill};
+pub use filling::{ABANDON, LINE, ReadFailed, TextReader, fill};
+pub use given::Given;

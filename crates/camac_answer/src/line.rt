@@ -1,11 +1,12 @@
-// The answer that a line spells.
+// What a line gives.
 
 ghost use Rattle.std.specs.Prelude.{◌≡◌, ◌≤◌, ◌<◌, ◌-◌, ◌^◌, ◌⊎◌, length, IfOk, IfSome, IfNone, true, slice_index, Ok, Err, if◌then◌else◌};
-ghost use Rattle.camac_answer.specs.Lines.{first_line, IsJudged, bit_at, word_at, digit_number, wait_at, has_shape as is_shaped, fields_after, fields_answer, line_answer};
+ghost use Rattle.camac_answer.specs.Lines.{first_line, IsJudged, bit_at, word_at, digit_number, wait_at, has_shape as is_shaped, fields_after, fields_answer, line_answer, line_given, is_abandon};
 ghost use Rattle.camac_answer.specs.declared.fault.AnswerRule.TheVariants.{LineShape, BadDigit};
 
 use crate::fault::AnswerRule;
 use crate::filling::LINE;
+use crate::given::Given;
 use camac_branch::Answer;
 use camac_word::Word24;
 
@@ -117,9 +118,34 @@ fn fields_after(x: bool, q: bool, line: &[u8]) -> Result<Answer, AnswerRule>
     }
 }
 
-/// The answer of the first line of these bytes.
+/// What the first line of these bytes gives.
 #[inline(always)]
-pub(crate) fn first_answer(bytes: &[u8]) -> Result<Answer, AnswerRule>
+pub(crate) fn first_given(bytes: &[u8]) -> Result<Given, AnswerRule>
+    ensures { result ≡ line_given (first_line bytes.now) }
+{
+    match first_answer(bytes) {
+        Ok(answer) => Ok(Given::Answer(answer)),
+        Err(rule) => {
+            if is_abandon(&bytes[..line_length(bytes)]) {
+                Ok(Given::Abandon)
+            } else {
+                Err(rule)
+            }
+        }
+    }
+}
+
+// Whether a line without its LF is `abandon`.
+#[inline(never)]
+fn is_abandon(line: &[u8]) -> bool
+    ensures { result ≡ is_abandon line.now }
+{
+    line.len() == 7 && line.starts_with(b"abandon")
+}
+
+// The answer of the first line of these bytes.
+#[inline(always)]
+fn first_answer(bytes: &[u8]) -> Result<Answer, AnswerRule>
     ensures { result ≡ line_answer (first_line bytes.now) }
 {
     let len = judged_length(bytes);

@@ -21,14 +21,13 @@ use Rattle.camac_engines.specs.declared.outcome.Outcome.{Outcome}
 use Rattle.camac_engines.specs.Response.{Responds, TellsResponse}
 use Rattle.camac_engines.specs.declared.response.Responded.{Responded}
 use Rattle.camac_engines.specs.declared.response.Responded.TheVariants.{Told, Misused}
-use Rattle.camac_word.specs.Watched.{inner_of}
 use Rattle.camac_c.specs.Texts.{IsLongText, AreLongTexts, IsFound, found_in, Answers, GoesOut, engine_code, AnswersEvents as TellsEvents, AnswersPlan as TellsOfPlan, AnswersTexts as TellsOfTexts}
 use Rattle.camac_c.specs.Run.{AnswersRun, RunSays, holding}
 use Rattle.camac_c.specs.Response.{AreMisused, AreWordsOf, IsTold, RespondsTo, RespondsToTexts}
 use Rattle.camac_event.specs.Reading.{file_at}
-use Rattle.camac_tool.specs.Headline.{JudgedKeeps, FoundKeeps}
-use Rattle.camac_tool.specs.Run.{Runs, RunsFound, RunsJudged}
-use Rattle.camac_tool.specs.World.{World}
+use Rattle.camac_tool_run.specs.Headline.{JudgedKeeps, FoundKeeps}
+use Rattle.camac_tool_run.specs.Run.{Runs, RunsFound, RunsJudged}
+use Rattle.camac_tool_run.specs.World.{World}
 use Rattle.camac_play.specs.Sent.{Outputs}
 use Rattle.camac_play.specs.declared.telling.Telling.TheVariants.{Listing}
 use Rattle.camac_response_times.specs.Setting.{ReadsSettings}
@@ -50,18 +49,18 @@ read_long limit p (Some ys) c = subst (λ (xs : List ℕ). limit < length xs) (s
 -- the source of a plan is this text
 abbrev pub IsText : {R : Type 0} → (R → Option (List ℕ)) → PlanSource R → List ℕ → Type 0
 IsText left Sample p = ⊥
-IsText left (Text w) p = left (inner_of w) ≡ Some p
+IsText left (Text reader) p = left reader ≡ Some p
 
 pub says_reading : {R : Type 0} (left : R → Option (List ℕ)) (src src' : PlanSource R) (p : List ℕ) (says : PlanFound) → IsText left src p → Says left src src' says → says ≡ plan_found p
 says_reading left Sample src' p says is h = absurd is
 says_reading left (Text w) Sample p says is h = absurd h
 says_reading left (Text w) (Text w') p says is h =
-    h.2 ∙ ap plan_found (read_all TEXT_LIMIT p h.0 (left (inner_of w')) (subst (λ (o : Option (List ℕ)). WasRead TEXT_LIMIT o (left (inner_of w')) h.0) is h.1))
+    h.2 ∙ ap plan_found (read_all TEXT_LIMIT p h.0 (left w') (subst (λ (o : Option (List ℕ)). WasRead TEXT_LIMIT o (left w') h.0) is h.1))
 
 pub plan_long : {R : Type 0} (left : R → Option (List ℕ)) (src src' : PlanSource R) (p : List ℕ) → IsText left src p → IsPlanTooLong left src src' → IsLongText p
 plan_long left Sample src' p is h = absurd is
 plan_long left (Text w) Sample p is h = absurd h
-plan_long left (Text w) (Text w') p is h = read_long TEXT_LIMIT p (left (inner_of w')) (subst (λ (o : Option (List ℕ)). ConsumesSome o (left (inner_of w')) (TEXT_LIMIT + 1)) is h)
+plan_long left (Text w) (Text w') p is h = read_long TEXT_LIMIT p (left w') (subst (λ (o : Option (List ℕ)). ConsumesSome o (left w') (TEXT_LIMIT + 1)) is h)
 
 -- What was found of two readers, as what is found of their texts.
 
@@ -93,27 +92,27 @@ module _ (old new : List ℕ) (size : ℕ) {o o' : Option (List ℕ)} {code : �
     answers (Err fault.Memory) h g = inr (inl (refl, g))
     answers (Err fault.TooLong) h g = inr (inr (refl, long h.0, g))
 
-    told : EngineAnswers WasRead Says IsTooLong o o' r → Answers Tells IsLong code old new size
-    told h =
+    answers_told : EngineAnswers WasRead Says IsTooLong o o' r → Answers Tells IsLong code old new size
+    answers_told h =
         subst (λ (n : ℕ). Answers Tells IsLong n old new size) (sym is_code)
         (answers r (subst (λ (x : Option (List ℕ)). EngineAnswers WasRead Says IsTooLong x (Some items) r) before (subst (λ (x : Option (List ℕ)). EngineAnswers WasRead Says IsTooLong o x r) after h)) goes)
 
   module _ {R : Type 0} (left : R → Option (List ℕ)) (src src' : PlanSource R) (p : List ℕ) (is : IsText left src p) where
     pub plan_told : (a : PlanAsk) → AnswersPlan a left src src' o o' r → TellsOfPlan a p code old new size
     plan_told a =
-        told (Says left src src') (TellsPlan a) (IsPlanTooLong left src src') (TellsPlan a (plan_found p)) (IsLongText p)
+        answers_told (Says left src src') (TellsPlan a) (IsPlanTooLong left src src') (TellsPlan a (plan_found p)) (IsLongText p)
         (λ says read outcome text h. subst (λ (q : PlanFound). TellsPlan a q outcome text) (says_reading left src src' p says is read) h) (plan_long left src src' p is)
 
     module _ (s : List ℕ) {b : Option (List ℕ)} (t : Option (List ℕ)) (script : b ≡ Some s) where
       pub texts_told : (a : Ask) → AnswersTexts a left src src' b t o o' r → TellsOfTexts a p s code old new size
       texts_told a h =
-          told (HasRead left src src' (Some s) t) (TellsFound a) (IsTooLong left src src' (Some s) t) (TellsFound a (found_in (plan_found p) s)) (AreLongTexts p s)
+          answers_told (HasRead left src src' (Some s) t) (TellsFound a) (IsTooLong left src src' (Some s) t) (TellsFound a (found_in (plan_found p) s)) (AreLongTexts p s)
           (λ found read outcome text k. subst (λ (q : Found). TellsFound a q outcome text) (has_read left src src' p s is t found read) k) (too_long left src src' p s is t)
           (subst (λ (x : Option (List ℕ)). AnswersTexts a left src src' x t o o' r) script h)
 
   pub events_told : (file : List ℕ) {a : Option (List ℕ)} (b : Option (List ℕ)) → a ≡ Some file → AnswersEvents a b o o' r → TellsEvents file code old new size
   events_told file b e h =
-      told (WasRead EVENTS_LIMIT (Some file) b) (λ bytes. Reports (report_events (file_at bytes))) (ConsumesSome (Some file) b 16777217) (Reports (report_events (file_at file))) (EVENTS_LIMIT < length file)
+      answers_told (WasRead EVENTS_LIMIT (Some file) b) (λ bytes. Reports (report_events (file_at bytes))) (ConsumesSome (Some file) b 16777217) (Reports (report_events (file_at file))) (EVENTS_LIMIT < length file)
       (λ bytes read outcome text k. subst (λ (q : List ℕ). Reports (report_events (file_at q)) outcome text) (read_all EVENTS_LIMIT file bytes b read) k) (read_long EVENTS_LIMIT file b)
       (subst (λ (x : Option (List ℕ)). AnswersEvents x b o o' r) e h)
 
@@ -190,7 +189,7 @@ module _ {R : Type 0} (left : R → Option (List ℕ)) (src src' : PlanSource R)
 -- with the words of two texts
 pub of_texts : (p s every within : List ℕ) (es ws : List (List ℕ)) → AreWordsOf every es → AreWordsOf within ws
     → (r : Result (Option (Outcome × Vec ℕ)) ToolFault) → RespondsTo p s es ws r → RespondsToTexts p s every within r
-of_texts p s every within es ws e w (Ok (Some told)) h = record { every_words = es; every_are = e; within_words = ws; within_are = w; told = h }
+of_texts p s every within es ws e w (Ok (Some told)) h = record { every_words = es; every_are = e; within_words = ws; within_are = w; text_is = h }
 of_texts p s every within es ws e w (Ok None) h = inr (inr (es, ws, e, w, h))
 of_texts p s every within es ws e w (Err fault.TooLong) h = h
 of_texts p s every within es ws e w (Err fault.Write) h = tt

@@ -1,10 +1,10 @@
 -- What C is told of a run, from what passes between a call and the run.
-use Rattle.std.proofs.Common.{◌≡◌, ℕ, zero, suc, List, [], length, refl, ap, ◌∙◌, subst, arith}
+use Rattle.std.proofs.Common.{◌≡◌, ℕ, zero, suc, List, [], length, map, refl, ap, ◌∙◌, subst, arith}
 use Rattle.std.specs.Prelude.{Option, Some, None, min, option_map, reverse, slice_get, unwrap_or}
 use Rattle.camac_lang.specs.Tree.{Service}
 use Rattle.camac_run.specs.Runner.{last_words_in}
 use Rattle.camac_run.specs.Back.{back_in}
-use Rattle.camac_c.specs.Ahead.{numbers_ahead}
+use Rattle.camac_c.specs.Ahead.{numbers_ahead, of_none}
 use Rattle.camac_c.specs.Filled.{filled, filled_words, over, over_words}
 use Rattle.camac_c.specs.Last.{last_lines, last_record}
 use Rattle.camac_c.specs.Place.{numbers_of_place}
@@ -52,11 +52,11 @@ written : (v after : Option Session) (a : SessionAsk) (none told : Told) (ws : L
 written None after a none told ws h = h.1
 written (Some s) None a none told ws h = absurd h
 written (Some s) (Some after) ask.Wants none told ws h = h.0
-written (Some s) (Some after) ask.Ahead none told ws h = h.1.2.0 ∙ filled_words_none (numbers_ahead s.checked.now.plan s.runner h.1.0)
-written (Some s) (Some after) (ask.ServiceAhead k) none told ws h = begun_none s k told ws h.1.tells
+written (Some s) (Some after) (ask.Ahead far) none told ws h = h.1.2.0 ∙ filled_words_none (numbers_ahead s.checked.now.plan s.runner h.1.0)
+written (Some s) (Some after) (ask.ServiceAhead k far) none told ws h = begun_none s k told ws h.1.tells
 written (Some s) (Some after) ask.Transfer none told ws h = h.1.2.0 ∙ filled_words_none (unwrap_or (option_map numbers_in h.1.0) [])
 written (Some s) (Some after) ask.ToWrite none told ws h = h.1.2.0 ∙ filled_words_none (unwrap_or (option_map (λ (t : TransferLeft). unwrap_or (words_sent t.table) []) h.1.0) [])
-written (Some s) (Some after) ask.Back none told ws h = h.1.1.0 ∙ filled_words_none (numbers_ahead s.checked.now.plan s.runner (back_in s.runner))
+written (Some s) (Some after) ask.Back none told ws h = h.1.1.0 ∙ filled_words_none (numbers_ahead s.checked.now.plan s.runner (map of_none (back_in s.runner)))
 written (Some s) (Some after) (ask.Next a) none told ws h = h.0
 written (Some s) (Some after) (ask.Step a) none told ws h = h.0
 written (Some s) (Some after) ask.Words none told ws h = h.1.0 ∙ filled_words_none (last_words_in s.runner)

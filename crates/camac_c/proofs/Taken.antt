@@ -43,7 +43,7 @@ use base.Fml.{flft, flent}
 use types.Match.{live}
 use contract.Monad.{fact_use}
 use denote.Laws.{Is, Lawful, Typed, shows}
-use Rattle.camac_checked.specs.contracts.checked.Checked as script
+use Rattle.camac_rules.specs.contracts.checked.Checked as script
 
 -- The machine values of a `Loose`. Assumes `Logic`.
 

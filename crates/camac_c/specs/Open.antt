@@ -1,7 +1,7 @@
 -- What opening a session answers.
 use Rattle.std.specs.Prelude.{◌≡◌, ◌⊎◌, ℕ, List, ◌++◌, Option, Some, None, Result, Ok, Err}
 use Rattle.std.specs.Global.{Vec}
-use Rattle.camac_checked.specs.Checked.{CheckedScript, IsChecked}
+use Rattle.camac_rules.specs.Checked.{CheckedScript, IsChecked}
 use Rattle.camac_engines.specs.Accepted.{accepted}
 use Rattle.camac_engines.specs.Ask.{TellsFound}
 use Rattle.camac_engines.specs.declared.ask.Ask.TheVariants.{Check}

@@ -11,7 +11,7 @@ use Rattle.std.specs.Box.Ownership.{box_owns}
 use Rattle.std.specs.Global.{Global}
 use Rattle.std.specs.contracts.impls.GlobalAllocator.TheImpl.{ghosts}
 use Rattle.camac_c.specs.declared.session.Session.{Session as Run}
-use Rattle.camac_checked.specs.contracts.checked.Checked as script
+use Rattle.camac_rules.specs.contracts.checked.Checked as script
 use Rattle.camac_c.specs.contracts.session.Session as run
 
 -- the run's type while the lifetime α lasts

@@ -60,24 +60,24 @@ module _ (plan script : List ℕ) where
     pub every_are : AreWordsOf every every_words
     pub within_words : List (List ℕ)
     pub within_are : AreWordsOf within within_words
-    pub told : IsTold every_words within_words outcome text
+    pub text_is : IsTold every_words within_words outcome text
 
   abbrev pub AreMisusedTexts : (every within : List ℕ) → Type 0
   AreMisusedTexts every within =
       IsNoText every ⊎ IsNoText within ⊎ ((es ws : List (List ℕ)) × AreWordsOf every es × AreWordsOf within ws × AreMisused es ws)
 
   -- before the text goes out
-  abbrev pub Tells : (IsTold : Outcome → List ℕ → Type 0) (IsMisuse : Type 0) → Result (Option (Outcome × Vec ℕ)) ToolFault → Type 0
-  Tells IsTold IsMisuse (Ok (Some told)) = IsTold told.0 told.1.items
-  Tells IsTold IsMisuse (Ok None) = IsMisuse
-  Tells IsTold IsMisuse (Err fault.TooLong) = AreLongTexts plan script
-  Tells IsTold IsMisuse (Err _) = Unit {0}
+  abbrev pub TellsOrMisuse : (IsTold : Outcome → List ℕ → Type 0) (IsMisuse : Type 0) → Result (Option (Outcome × Vec ℕ)) ToolFault → Type 0
+  TellsOrMisuse IsTold IsMisuse (Ok (Some told)) = IsTold told.0 told.1.items
+  TellsOrMisuse IsTold IsMisuse (Ok None) = IsMisuse
+  TellsOrMisuse IsTold IsMisuse (Err fault.TooLong) = AreLongTexts plan script
+  TellsOrMisuse IsTold IsMisuse (Err _) = Unit {0}
 
   abbrev pub RespondsTo : (every within : List (List ℕ)) → Result (Option (Outcome × Vec ℕ)) ToolFault → Type 0
-  RespondsTo every within = Tells (IsTold every within) (AreMisused every within)
+  RespondsTo every within = TellsOrMisuse (IsTold every within) (AreMisused every within)
 
   abbrev pub RespondsToTexts : (every within : List ℕ) → Result (Option (Outcome × Vec ℕ)) ToolFault → Type 0
-  RespondsToTexts every within = Tells (IsToldOf every within) (AreMisusedTexts every within)
+  RespondsToTexts every within = TellsOrMisuse (IsToldOf every within) (AreMisusedTexts every within)
 
   -- a call on texts, as `Answers`; 2 where the texts of words are misuse
   abbrev pub AnswersResponse : (every within : List ℕ) → ℕ → (old new : List ℕ) (size : ℕ) → Type 0

@@ -1,7 +1,7 @@
 -- What a run on texts answers.
 use Rattle.std.specs.Prelude.{◌≡◌, ◌⊎◌, ℕ, false, List, [], Option, Some, Ok}
-use Rattle.camac_tool.specs.Headline.{JudgedKeeps}
-use Rattle.camac_tool.specs.Run.{RunsJudged}
+use Rattle.camac_tool_run.specs.Headline.{JudgedKeeps}
+use Rattle.camac_tool_run.specs.Run.{RunsJudged}
 use Rattle.camac_engines.specs.declared.judging.Judged.{Judged}
 use Rattle.camac_engines.specs.declared.outcome.Outcome.{Outcome}
 use Rattle.camac_play.specs.Sent.{Outputs}

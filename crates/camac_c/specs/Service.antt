@@ -1,6 +1,6 @@
 -- What C is told of the services of a script, by their numbers from 1 in the order of the script.
 use Rattle.std.specs.Prelude.{ℕ, zero, suc, ◌-◌, nat_eq, if◌then◌else◌, List, [], ◌∷◌, Option, None, Some, option_map, slice_get}
-use Rattle.camac_checked.specs.Checked.{CheckedScript}
+use Rattle.camac_rules.specs.Checked.{CheckedScript}
 use Rattle.camac_lang.specs.Tree.{Text, Lam, Service, Script}
 use Rattle.camac_model.specs.Fine.{Bounds}
 use Rattle.camac_lines.specs.Verdict.{lam_name}

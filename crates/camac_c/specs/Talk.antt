@@ -1,8 +1,8 @@
 -- What the calls of a session say.
-use Rattle.std.specs.Prelude.{◌≡◌, ◌<◌, ◌≤◌, ◌-◌, ℕ, zero, suc, List, [], length, reverse, true, false, Option, None, Some, IfSome, nat_eq, option_map, slice_get, unwrap_or, if◌then◌else◌}
+use Rattle.std.specs.Prelude.{◌≡◌, ◌<◌, ◌≤◌, ◌-◌, ℕ, zero, suc, List, [], length, map, reverse, true, false, Option, None, Some, IfSome, nat_eq, option_map, slice_get, unwrap_or, if◌then◌else◌}
 use Rattle.camac_branch.specs.Branch.{Answer as BranchAnswer}
 use Rattle.camac_branch.specs.declared.answer.Overrun.{Overrun}
-use Rattle.camac_checked.specs.Checked.{CheckedScript}
+use Rattle.camac_rules.specs.Checked.{CheckedScript}
 use Rattle.camac_model.specs.Run.{the_run}
 use Rattle.camac_lang.specs.Tree.{Service}
 use Rattle.camac_run.specs.Ahead.{BeginsWith, IsAhead}
@@ -12,6 +12,7 @@ use Rattle.camac_run.specs.Operation.{Wants}
 use Rattle.camac_run.specs.Requested.{IsSafeRequest, held_in}
 use Rattle.camac_run.specs.Runner.{RunnerState, rest, last_words_in, KeepsLimit, Progresses}
 use Rattle.camac_run.specs.Waits.{GoesOnUpTo, waits_of}
+use Rattle.camac_run.specs.declared.member.Member.{Member}
 use Rattle.camac_run.specs.declared.place.Place.{Place}
 use Rattle.camac_run.specs.declared.progress.Progress.{Progress}
 use Rattle.camac_run.specs.declared.progress.Wanted.{Wanted}
@@ -19,7 +20,7 @@ use Rattle.camac_run.specs.declared.transfer.TransferLeft.{TransferLeft}
 use Rattle.camac_machine.specs.Course.{words_sent}
 use Rattle.camac_machine.specs.Rest.{Operation, is_paused}
 use Rattle.camac_c.specs.Abandoned.{LeavesService}
-use Rattle.camac_c.specs.Ahead.{numbers_ahead}
+use Rattle.camac_c.specs.Ahead.{numbers_ahead, of_none}
 use Rattle.camac_c.specs.Filled.{filled, filled_words}
 use Rattle.camac_c.specs.Held.{held_then}
 use Rattle.camac_c.specs.Last.{kept_of, last_lines, last_record}
@@ -83,6 +84,13 @@ pub record Uses (a : BranchAnswer) (s after : Session) (told : Told) : Type 0 wh
   pub held : after.held.items ≡ held_then progress s.held.items
   pub checked : after.checked ≡ s.checked
 
+-- it may be taken, and is used
+pub record IsUsed (a : CamacAnswer) (s after : Session) (told : Told) : Type 0 where
+  pub awake : is_paused s.runner.pending ≡ false
+  pub in_range : InRange a
+  pub few : s.runner.fed < 4294967295
+  pub uses : Uses (answer_in a) s after told
+
 -- it is taken; 8 where the run pauses then
 pub record Takes (a : CamacAnswer) (s after : Session) (told : Told) : Type 0 where
   pub used : Session
@@ -110,6 +118,12 @@ pub record TellsStep (a : CamacAnswer) (s after : Session) (told : Told) : Type 
   pub tells : TellsWant after after wants
   pub told_is : told ≡ with_want next wants
 
+-- so it is told after what an answer did
+abbrev pub TellsThen : Session → (did told : Told) → Type 0
+TellsThen s did told =
+    let pauses = is_paused s.runner.pending in
+    (wanted : Option Wanted) × IsWanted s.runner wanted × (told ≡ with_want (while_paused pauses did) (while_paused pauses (asked s.width s.runner wanted)))
+
 -- words, as many as there is room for
 abbrev pub TellsWords : List ℕ → (old new : List ℕ) → Told → Type 0
 TellsWords words old new told = (new ≡ filled_words words old) × (told ≡ counted (length words))
@@ -120,14 +134,14 @@ TellsPlace h old new told = (place : Option Place) × IsAt h place × TellsWords
 
 -- what comes next, whatever is answered
 abbrev pub TellsAhead : Session → (old new : List ℕ) → Told → Type 0
-TellsAhead s old new told = (os : List Wanted) × IsAhead s.runner os × TellsWords (numbers_ahead s.checked.now.plan s.runner os) old new told
+TellsAhead s old new told = (os : List Member) × IsAhead s.runner os × TellsWords (numbers_ahead s.checked.now.plan s.runner os) old new told
 
 -- what a service surely makes first, where there is such a service: 2 where no demand is wanted
 abbrev pub TellsFirst : Session → (service : ℕ) → Option Service → Option Operation → (old new : List ℕ) → Told → Type 0
 TellsFirst s i None pending old new told = (new ≡ old) × (told ≡ only_code 5)
 TellsFirst s i (Some v) (Some w) old new told = (new ≡ old) × (told ≡ only_code 2)
 TellsFirst s i (Some v) None old new told =
-    (os : List Wanted) × BeginsWith s.checked.now i os × TellsWords (numbers_ahead s.checked.now.plan s.runner os) old new told
+    (os : List Member) × BeginsWith s.checked.now i os × TellsWords (numbers_ahead s.checked.now.plan s.runner os) old new told
 
 abbrev pub TellsNumbered : Session → (number : ℕ) → (old new : List ℕ) → Told → Type 0
 TellsNumbered s zero old new told = TellsFirst s zero None None old new told
@@ -139,7 +153,7 @@ pub record TellsServiceAhead (s : Session) (number : ℕ) (old new : List ℕ) (
 
 -- what sets the crates back, of which this is true
 abbrev pub TellsBack : Session → (old new : List ℕ) → Told → Type 0
-TellsBack s old new told = SettingBackHolds × TellsWords (numbers_ahead s.checked.now.plan s.runner (back_in s.runner)) old new told
+TellsBack s old new told = SettingBackHolds × TellsWords (numbers_ahead s.checked.now.plan s.runner (map of_none (back_in s.runner))) old new told
 
 -- what is left of the transfer whose cycle is waited for
 abbrev pub TellsTransfer : (TransferLeft → List ℕ) → RunnerState → (old new : List ℕ) → Told → Type 0
@@ -152,7 +166,7 @@ Lists text old new told = (new ≡ filled text old) × (told ≡ counted (length
 -- 5 where there are none
 abbrev pub TellsIf : (List ℕ → (old new : List ℕ) → Told → Type 0) → Option (List ℕ) → (old new : List ℕ) → Told → Type 0
 TellsIf Tells None old new told = (new ≡ old) × (told ≡ only_code 5)
-TellsIf Tells (Some its) old new told = Tells its old new told
+TellsIf Tells (Some listed) old new told = Tells listed old new told
 
 -- how many answers a run may still use: none after a wait that was not permitted
 abbrev pub left_from : Option Overrun → (fed : ℕ) → ℕ
@@ -165,8 +179,8 @@ answers_left h = left_from h.overrun h.fed
 -- where bytes are asked for, they are written, and nothing changes
 abbrev pub Steps : Session → SessionAsk → Session → (old new : List ℕ) → Told → Type 0
 Steps s ask.Wants after old new told = (new ≡ old) × TellsWant s after told
-Steps s ask.Ahead after old new told = (after ≡ s) × TellsAhead s old new told
-Steps s (ask.ServiceAhead k) after old new told = (after ≡ s) × TellsServiceAhead s k old new told
+Steps s (ask.Ahead far) after old new told = (after ≡ s) × TellsAhead s old new told
+Steps s (ask.ServiceAhead k far) after old new told = (after ≡ s) × TellsServiceAhead s k old new told
 Steps s ask.Transfer after old new told = (after ≡ s) × TellsTransfer numbers_in s.runner old new told
 Steps s ask.ToWrite after old new told = (after ≡ s) × TellsTransfer (λ t. unwrap_or (words_sent t.table) []) s.runner old new told
 Steps s ask.Back after old new told = (after ≡ s) × TellsBack s old new told

@@ -8,13 +8,14 @@ use Rattle.camac_machine.specs.MachineState.{Left}
 use Rattle.camac_machine.specs.declared.item.Item.{Item}
 use Rattle.camac_machine.specs.declared.item.Item.TheVariants as item
 use Rattle.camac_run.specs.Runner.{RunnerState}
+use Rattle.camac_run.specs.Size.{size_in}
 use Rattle.camac_run.specs.Waits.{waits_of}
 use Rattle.camac_run.specs.declared.progress.Progress.{Progress}
 use Rattle.camac_run.specs.declared.progress.Progress.TheVariants.{Went, Overrun}
 use Rattle.camac_run.specs.declared.progress.Wanted.{Wanted}
 use Rattle.camac_run.specs.declared.progress.Wanted.TheVariants.{Demand, Cycle, Lock}
 use Rattle.camac_c.specs.Filled.{filled}
-use Rattle.camac_c.specs.Plain.{no_want, no_progress, only_code}
+use Rattle.camac_c.specs.Plain.{no_want, no_progress, only_code, short_in}
 use Rattle.camac_c.specs.declared.plain.CamacAnswer.{CamacAnswer}
 use Rattle.camac_c.specs.declared.plain.CamacWant.{CamacWant}
 use Rattle.camac_c.specs.declared.plain.CamacProgress.{CamacProgress}
@@ -49,22 +50,12 @@ read_in (moves.Out written) n = 0
 -- what is wanted: 1 a demand, 2 a cycle, 3 a lock; with the longest wait that is permitted, and the width of what is read
 abbrev pub want_in : (width : ℕ) → RunnerState → Wanted → CamacWant
 want_in width h Demand = record no_want { kind = 1; waits = waits_of h Demand; width = width }
-want_in width h (Cycle k) = record {
-  kind = 2;
-  c = k.c;
-  n = k.n;
-  a = k.a;
-  f = k.f;
-  «data» = movement_in k.mv;
-  waits = waits_of h (Cycle k);
-  width = width;
-  word = written_in k.mv;
-}
+want_in width h (Cycle k) = record no_want { kind = 2; c = k.c; n = k.n; a = k.a; f = k.f; «data» = movement_in k.mv; waits = waits_of h (Cycle k); width = width; word = written_in k.mv }
 want_in width h (Lock c) = record no_want { kind = 3; c = c; waits = waits_of h (Lock c); width = width }
 
--- 4 and zeros where nothing is wanted, after a wait that was not permitted
+-- with whether that moves 16 bits; 4 and zeros where nothing is wanted, after a wait that was not permitted
 abbrev pub asked : (width : ℕ) → RunnerState → Option Wanted → Told
-asked width h (Some wanted) = record (only_code 0) { want = want_in width h wanted }
+asked width h (Some wanted) = record (only_code 0) { want = record (want_in width h wanted) { is_short = short_in (size_in h) } }
 asked width h None = only_code 4
 
 -- the code is 8 while the run pauses

@@ -8,7 +8,7 @@ ghost use Rattle.camac_c.specs.Talk.{Asks, StartsOn, Talks, Holds};
 use crate::loose::Loose;
 use crate::plain::{MISUSE, SessionAsk, Told, only_code};
 use crate::session::{Session, finish, start, step};
-use camac_checked::Checked;
+use camac_rules::Checked;
 use std::alloc::Global;
 use std::marker::Model;
 
@@ -95,7 +95,9 @@ impl Handle {
         ensures { Talks self.old.value ask told.old self.new.value bytes.old bytes.new told.new }
     {
         let held = std::mem::replace(self, Handle::none(alloc));
-        *self = held.talk(ask, told, bytes);
+        let next = held.talk(ask, told, bytes);
+        // what stood there meanwhile is none: to drop it would be a test of each call
+        std::mem::forget(std::mem::replace(self, next));
     }
 
     /// Asks the run, where there is one, else tells `MISUSE`.

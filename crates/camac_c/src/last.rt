@@ -10,10 +10,10 @@ ghost use Rattle.camac_play.specs.Told.{event_record};
 
 use crate::filling::give;
 use byteorder::{BigEndian, ByteOrder};
-use camac_checked::Checked;
 use camac_event::Usage;
 use camac_lines::{LONGEST_LINE, bytes_in};
 use camac_report::{items_in, unlocks_line};
+use camac_rules::Checked;
 use camac_run::Used;
 use camac_word::{GlBit, Word24};
 
@@ -76,18 +76,38 @@ fn give_event(
 {
     match event {
         Some((number, gl, usage)) => {
-            let mut record = [0; LONGEST_RECORD];
-            let end = record_in(&mut record, *number, *gl, *usage, words);
-            give(&record[..end], bytes, size);
+            let end = 16 + 4 * words.len();
+            if bytes.len() < end {
+                return give_cut(*number, *gl, *usage, words, bytes, size);
+            }
+            *size = record_in(&mut bytes[..end], *number, *gl, *usage, words);
         }
         None => give(&[], bytes, size),
     }
 }
 
+// The same where there is no room for all of it.
+#[inline(never)]
+fn give_cut(
+    number: u32,
+    gl: GlBit,
+    usage: Usage,
+    words: &[Word24],
+    bytes: &mut [u8],
+    size: &mut usize,
+)
+    requires { length words.now ≤ 4096 }
+    ensures { Gives (record_of number (record { gl = gl; usage = Some usage; words = words.now })) bytes.old bytes.new size.new }
+{
+    let mut record = [0; LONGEST_RECORD];
+    let end = record_in(&mut record, number, gl, usage, words);
+    give(&record[..end], bytes, size);
+}
+
 // Lays out a record, and returns its size.
 fn record_in(bytes: &mut [u8], number: u32, gl: GlBit, usage: Usage, words: &[Word24]) -> usize
     requires few { length words.now ≤ 4096 }
-    requires room { 16 + 4 * 4096 ≤ length bytes.old }
+    requires room { 16 + 4 * length words.now ≤ length bytes.old }
     ensures written { take result bytes.new ≡ record_of number (record { gl = gl; usage = Some usage; words = words.now }) }
     ensures end { result ≡ 16 + 4 * length words.now }
     ensures len { length bytes.new ≡ length bytes.old }

@@ -9,9 +9,9 @@ ghost use Rattle.camac_c.specs.Talk.{Holds, StartsOn};
 use crate::handle::Handle;
 use crate::loose::Loose;
 use crate::plain::{MISUSE, SessionAsk};
-use camac_checked::Checked;
 use camac_engines::{Judged, PlanSource, ToolFault, read_judged, refuse};
 use camac_lines::write_verdict;
+use camac_rules::Checked;
 use camac_word::Watched;
 use std::alloc::Global;
 

@@ -1,7 +1,9 @@
 // What crosses to C, in numbers, and what passes between a call and a run.
 
 ghost use Rattle.std.specs.Prelude.{◌≡◌};
-ghost use Rattle.camac_c.specs.Plain.{only_code};
+ghost use Rattle.camac_c.specs.Plain.{only_code, short_in};
+
+use camac_lang::WordSize;
 
 /// An answer of the branch. `x` and `q` are true where they are not 0.
 #[repr(C)]
@@ -30,6 +32,10 @@ pub struct CamacWant {
     /// How wide the register is that it reads; 0 where it reads none.
     pub width: u8,
     pub word: u32,
+    /// What is told of a block, which the caller adds.
+    pub of_block: [u8; 3],
+    /// Whether its statement is `cssa`.
+    pub is_short: u8,
 }
 
 /// What an answer did.
@@ -63,10 +69,10 @@ pub struct CamacProgress {
 pub enum SessionAsk {
     /// What the next answer is for.
     Wants,
-    /// The operations that come next, whatever is answered.
-    Ahead,
-    /// The operations that a service surely makes first, by its number from 1 on.
-    ServiceAhead(u32),
+    /// What comes next, whatever is answered; also behind blocks and releases, if this is not 0.
+    Ahead(u32),
+    /// What a service surely does first, by its number from 1 on; the same.
+    ServiceAhead(u32, u32),
     /// To take an answer.
     Next(CamacAnswer),
     /// To take an answer, and then what the next one is for.
@@ -150,6 +156,10 @@ pub const LOCK: u8 = 3;
 
 pub const STOPPED: u8 = 4;
 
+pub const BLOCK: u8 = 5;
+
+pub const RELEASE: u8 = 6;
+
 /// Nothing wanted.
 pub const NO_WANT: CamacWant = CamacWant {
     kind: 0,
@@ -161,6 +171,8 @@ pub const NO_WANT: CamacWant = CamacWant {
     waits: 0,
     width: 0,
     word: 0,
+    of_block: [0; 3],
+    is_short: 0,
 };
 
 /// Nothing done.
@@ -194,5 +206,16 @@ pub fn only_code(code: u32) -> Told
         want: NO_WANT,
         progress: NO_PROGRESS,
         count: 0,
+    }
+}
+
+/// Whether a cycle moves 16 bits.
+#[inline(always)]
+pub fn short_of(size: WordSize) -> u8
+    ensures { result ≡ short_in size }
+{
+    match size {
+        WordSize::Full => 0,
+        WordSize::Short => 1,
     }
 }

@@ -1,14 +1,14 @@
 // What is told of the services of a script, by their numbers from 1 on.
 
-ghost use Rattle.std.specs.Prelude.{◌≡◌, ◌<◌, length, option_copied};
+ghost use Rattle.std.specs.Prelude.{◌≡◌, ◌<◌, ◌++◌, drop, length, option_copied, take};
 ghost use Rattle.camac_lang.specs.View.{service_of as service_tree};
 ghost use Rattle.camac_c.specs.Filled.{filled_words};
 ghost use Rattle.camac_c.specs.Service.{name_at, name_in, numbers_at, numbers_in};
 
 use byteorder::{ByteOrder, LittleEndian};
-use camac_checked::Checked;
 use camac_lang::Service;
 use camac_lines::lam_name;
+use camac_rules::Checked;
 
 /// The name of a service. None where there is none.
 pub fn name_of(checked: &Checked, number: u32) -> Option<&[u8]>
@@ -70,13 +70,26 @@ fn numbers_in(checked: &Checked, i: usize, service: &Service) -> [u32; 10]
 }
 
 /// Writes numbers, as many as there is room for, the least byte of each first. Returns the number of all.
+#[inline(always)]
 pub fn write_numbers(numbers: &[u32], bytes: &mut [u8]) -> usize
     ensures all { result ≡ length numbers.now }
     ensures written { bytes.new ≡ filled_words numbers.now bytes.old }
 {
-    let n = numbers.len().min(bytes.len() / 4);
-    for i in 0..n {
-        LittleEndian::write_u32(&mut bytes[4 * i..], numbers[i]);
+    if numbers.len() <= bytes.len() / 4 {
+        LittleEndian::write_u32_into(numbers, &mut bytes[..4 * numbers.len()]);
+    } else {
+        let n = bytes.len() / 4;
+        LittleEndian::write_u32_into(&numbers[..n], &mut bytes[..4 * n]);
     }
     numbers.len()
+}
+
+/// The same from a place on.
+#[inline(always)]
+pub fn write_from(start: usize, numbers: &[u32], bytes: &mut [u8])
+    ensures { bytes.new ≡ take start bytes.old ++ filled_words numbers.now (drop start bytes.old) }
+{
+    if start <= bytes.len() {
+        write_numbers(numbers, &mut bytes[start..]);
+    }
 }

@@ -1,22 +1,21 @@
 // A run in progress: what is asked of it, and what it tells.
 
-ghost use Rattle.std.specs.Prelude.{◌≡◌, ◌<◌, ◌↔◌, ℕ, false, IfOk, IfSome, IsSome};
+ghost use Rattle.std.specs.Prelude.{◌≡◌, ◌<◌, ◌-◌, ◌%◌, ◌^◌, ◌↔◌, ℕ, Option, false, true, nat_eq, nat_lt, if◌then◌else◌, IfOk, IfSome, IsSome};
 ghost use Rattle.camac_machine.specs.Rest.{is_paused};
-ghost use Rattle.camac_run.specs.Operation.{Wants};
-ghost use Rattle.camac_run.specs.Requested.{IsSafeRequest, held_in};
 ghost use Rattle.camac_run.specs.Runner.{last_words_in};
-ghost use Rattle.camac_run.specs.Waits.{GoesOnUpTo, waits_of};
+ghost use Rattle.camac_run.specs.Size.{size_in};
+ghost use Rattle.camac_run.specs.declared.progress.Wanted.{Wanted};
 ghost use Rattle.camac_c.specs.Abandoned.{LeavesService};
 ghost use Rattle.camac_c.specs.Last.{last_lines, last_record};
 ghost use Rattle.camac_c.specs.Paused.{GoesOnIf, Limits};
-ghost use Rattle.camac_c.specs.Plain.{only_code};
+ghost use Rattle.camac_c.specs.Plain.{only_code, short_in};
 ghost use Rattle.camac_c.specs.Service.{name_at, numbers_at};
-ghost use Rattle.camac_c.specs.Talk.{Begins, Lists, StartsOn, Steps, TellsNext, TellsIf, TellsPlace, TellsStep, TellsWant, TellsWords, Uses, answers_left};
-ghost use Rattle.camac_c.specs.Told.{InRange, answer_in, asked, counted, crates_in, cut_in, did, event_in, flag_in, item_in, movement_in, service_in, want_in, while_paused, word_in, written_in};
-ghost use Rattle.camac_c.specs.Width.{width_read, width_wanted};
+ghost use Rattle.camac_c.specs.Talk.{Begins, IsUsed, IsWanted, Lists, StartsOn, Steps, TellsAhead, TellsNext, TellsIf, TellsPlace, TellsStep, TellsThen, TellsWant, TellsWords, Uses, answers_left};
+ghost use Rattle.camac_c.specs.Told.{InRange, answer_in, asked, counted, crates_in, did, event_in, flag_in, item_in, movement_in, service_in, want_in, while_paused, word_in, written_in};
+ghost use Rattle.camac_c.specs.Width.{KnowsWidth, width_read, width_wanted};
 
 use crate::abandon::write_crates;
-use crate::ahead::{ahead, back, first_of};
+use crate::ahead::{Room, back, first_of};
 use crate::filling::{give, write_words};
 use crate::held::{Held, keep_held, release_held, write_held};
 use crate::last::{Deed, Last, give_lines, give_record};
@@ -24,15 +23,15 @@ use crate::loose::Loose;
 use crate::place::numbers_of_place;
 use crate::plain::{
     BUSY, CYCLE, CamacAnswer, CamacProgress, CamacWant, DEMAND, LOCK, NO_PROGRESS, NO_WANT, OK,
-    OVERRUN, RANGE, SPENT, STOPPED, SessionAsk, Told, only_code,
+    OVERRUN, RANGE, SPENT, STOPPED, SessionAsk, Told, only_code, short_of,
 };
 use crate::service::{name_of, numbers_of, write_numbers};
 use crate::transfer::{tell_transfer, tell_words_to_write};
 use camac_branch::{Answer, Command, CycleDone, Overrun, Plan};
-use camac_checked::Checked;
 use camac_event::Usage;
 use camac_func::DataMove;
 use camac_machine::Item;
+use camac_rules::Checked;
 use camac_run::{FullRunner, Progress, Used, Wanted};
 use camac_word::{CrateNo, GlBit, Word24};
 use std::alloc::Global;
@@ -50,6 +49,7 @@ pub struct Session<'a> {
     held: Held,
     // how wide the register is that the next answer is read from: to look it up takes 60 instructions
     width: u8,
+    room: Room,
 }
 
 /// A run before its first demand, or the allocator where there is no memory.
@@ -68,6 +68,7 @@ pub fn start<'a>(alloc: Global, checked: &'a Checked) -> Result<Loose<Session<'a
             },
             held: Held::new(),
             width: 0,
+            room: Room::new(),
         },
     ) {
         Ok(session) => Ok(Loose::of(session)),
@@ -88,8 +89,10 @@ pub fn step<'a>(
     let mut session = run.into_box();
     match ask {
         SessionAsk::Wants => wants(&session, told),
-        SessionAsk::Ahead => *told = ahead(&session, bytes),
-        SessionAsk::ServiceAhead(number) => *told = first_of(&session, number, bytes),
+        SessionAsk::Ahead(far) => *told = ahead(&mut session, far != 0, bytes),
+        SessionAsk::ServiceAhead(number, far) => {
+            *told = first_of(&session, number, far != 0, bytes)
+        },
         SessionAsk::Next(answer) => next(&mut session, answer, told),
         SessionAsk::Step(answer) => next_and_wants(&mut session, answer, told),
         SessionAsk::Words => *told = counted(write_words(session.runner.last_words(), bytes)),
@@ -137,20 +140,27 @@ fn tell_want(session: &Session, wanted: &Option<Wanted>, want: &mut CamacWant)
 {
     match wanted {
         None => *want = NO_WANT,
-        Some(wanted) => tell_operation(&session.runner, wanted, session.width, want),
+        Some(wanted) => tell_one(&session.runner, wanted, session.width, want),
     }
+}
+
+#[inline(always)]
+fn tell_one(runner: &FullRunner, wanted: &Wanted, width: u8, want: &mut CamacWant)
+    ensures { want.new ≡ record (want_in width runner.now wanted.now) { is_short = short_in (size_in runner.now) } }
+{
+    tell_operation(runner, wanted, width, want);
+    want.is_short = short_of(runner.word_size());
 }
 
 #[inline(always)]
 fn tell_operation(runner: &FullRunner, wanted: &Wanted, width: u8, want: &mut CamacWant)
     ensures { want.new ≡ want_in width runner.now wanted.now }
 {
-    let waits = runner.waits_of(*wanted);
     match wanted {
         Wanted::Demand => {
             *want = CamacWant {
                 kind: DEMAND,
-                waits,
+                waits: runner.waits_of(Wanted::Demand),
                 width,
                 ..NO_WANT
             }
@@ -163,16 +173,17 @@ fn tell_operation(runner: &FullRunner, wanted: &Wanted, width: u8, want: &mut Ca
                 a: command.a.get() as u8,
                 f: command.f.get() as u8,
                 data: movement_of(command.mv),
-                waits,
+                waits: runner.waits_of(Wanted::Cycle(*command)),
                 width,
                 word: written_of(command.mv),
+                ..NO_WANT
             }
         }
         Wanted::Lock(c) => {
             *want = CamacWant {
                 kind: LOCK,
                 c: c.get() as u8,
-                waits,
+                waits: runner.waits_of(Wanted::Lock(*c)),
                 width,
                 ..NO_WANT
             }
@@ -181,12 +192,12 @@ fn tell_operation(runner: &FullRunner, wanted: &Wanted, width: u8, want: &mut Ca
 }
 
 /// What an operation is told as.
-pub fn want_of(session: &Session, wanted: &Wanted) -> CamacWant
-    ensures { result ≡ want_in (width_read session.now.checked.now.plan wanted.now) session.now.runner wanted.now }
+pub fn want_of(checked: &Checked, runner: &FullRunner, wanted: &Wanted) -> CamacWant
+    ensures { result ≡ want_in (width_read checked.now.plan wanted.now) runner.now wanted.now }
 {
     let mut want = NO_WANT;
-    let width = width_read(session.checked.plan(), wanted);
-    tell_operation(&session.runner, wanted, width, &mut want);
+    let width = width_read(checked.plan(), wanted);
+    tell_operation(runner, wanted, width, &mut want);
     want
 }
 
@@ -240,34 +251,45 @@ fn written_of(mv: DataMove) -> u32
 fn next(session: &mut Session, answer: CamacAnswer, told: &mut Told)
     ensures { TellsNext answer session.old session.new told.new }
 {
-    let _ = take(session, answer, told);
+    if take(session, answer, told) {
+        look(session, told);
+    }
 }
 
-// Takes an answer, and returns what is wanted then: the one body of `camac_next` and `camac_step`.
+// Takes an answer where that may be, keeps and tells what it did; else it tells why not.
 #[inline(always)]
-fn take(session: &mut Session, answer: CamacAnswer, told: &mut Told) -> Option<Wanted>
-    ensures tells { TellsNext answer session.old session.new told.new }
-    ensures wants { Wants session.new.runner result }
-    ensures safe { IfSome result (IsSafeRequest session.new.runner.checked.plan (held_in session.new.runner)) }
-    ensures waits { IfSome result (λ o. GoesOnUpTo session.new.runner (waits_of session.new.runner o)) }
+fn take(session: &mut Session, answer: CamacAnswer, told: &mut Told) -> bool
+    ensures used { result ≡ true → IsUsed answer session.old session.new told.new }
+    ensures declined { result ≡ false → TellsNext answer session.old session.new told.new }
+    ensures code { result ≡ false → nat_eq told.new.code 0 ≡ false }
 {
     if session.runner.is_paused() {
         *told = only_code(BUSY);
-        return session.runner.wants();
+        return false;
     }
     let Some(answer) = answer_of(answer) else {
         *told = only_code(RANGE);
-        return session.runner.wants();
+        return false;
     };
     if session.runner.fed() >= MOST_ANSWERS {
         *told = only_code(SPENT);
-        return session.runner.wants();
+        return false;
     }
     use_answer(session, answer, told);
+    true
+}
+
+// Keeps how wide the register is that is read next. The code is `BUSY` while the run pauses.
+#[inline(always)]
+fn look(session: &mut Session, told: &mut Told)
+    ensures knows { KnowsWidth session.new }
+    ensures same { session.new ≡ record session.old { width = session.new.width } }
+    ensures told { told.new ≡ while_paused (is_paused session.new.runner.pending) told.old }
+    ensures wants { (wanted : Option Wanted) × IsWanted session.new.runner wanted }
+{
     let wanted = session.runner.wants();
     session.width = width_wanted(session, &wanted);
     while_paused(session, told);
-    wanted
 }
 
 // Uses an answer, keeps and tells what it did.
@@ -307,9 +329,53 @@ fn while_paused(session: &Session, told: &mut Told)
 fn next_and_wants(session: &mut Session, answer: CamacAnswer, told: &mut Told)
     ensures { TellsStep answer session.old session.new told.new }
 {
-    let wanted = take(session, answer, told);
-    if told.code == OK {
-        tell_want(session, &wanted, &mut told.want);
+    if take(session, answer, told) {
+        tell_next(session, told);
+    } else {
+        // what is wanted stays, and is not told
+        let _ = session.runner.wants();
+    }
+}
+
+// Looks at what is wanted once, for its width and to tell it, where nothing else is told.
+#[inline(always)]
+fn tell_next(session: &mut Session, told: &mut Told)
+    ensures knows { KnowsWidth session.new }
+    ensures same { session.new ≡ record session.old { width = session.new.width } }
+    ensures told { TellsThen session.new told.old told.new }
+{
+    if is_done(session, told) {
+        tell_wanted(session, &mut told.want);
+    } else {
+        look(session, told);
+    }
+}
+
+// Whether an answer was taken, and the run does not pause.
+#[inline(always)]
+fn is_done(session: &Session, told: &Told) -> bool
+    ensures { result ≡ nat_eq (while_paused (is_paused session.now.runner.pending) told.now).code 0 }
+{
+    told.code == OK && !session.runner.is_paused()
+}
+
+// Keeps how wide the register is that is read next, and tells what is wanted.
+#[inline(always)]
+fn tell_wanted(session: &mut Session, want: &mut CamacWant)
+    ensures knows { KnowsWidth session.new }
+    ensures same { session.new ≡ record session.old { width = session.new.width } }
+    ensures tells { (wanted : Option Wanted) × IsWanted session.new.runner wanted × (want.new ≡ (asked session.new.width session.new.runner wanted).want) }
+{
+    match session.runner.wants() {
+        None => {
+            session.width = 0;
+            *want = NO_WANT;
+        }
+        Some(wanted) => {
+            let width = width_read(session.checked.plan(), &wanted);
+            session.width = width;
+            tell_one(&session.runner, &wanted, width, want);
+        }
     }
 }
 
@@ -321,6 +387,16 @@ pub fn counted(count: usize) -> Told
         count,
         ..only_code(OK)
     }
+}
+
+// What comes next, in the room of the session.
+fn ahead(session: &mut Session, far: bool, bytes: &mut [u8]) -> Told
+    ensures same { session.new ≡ session.old }
+    ensures tells { TellsAhead session.old bytes.old bytes.new result }
+{
+    session
+        .room
+        .tell_ahead(session.checked, &session.runner, far, bytes)
 }
 
 fn item(session: &Session, bytes: &mut [u8]) -> Told
@@ -408,9 +484,7 @@ fn go_on(session: &mut Session) -> Told
     session.last.deed = Deed::Pause;
     session.last.used.unlocks = unlocks;
     session.last.used.event = event;
-    let wanted = session.runner.wants();
-    session.width = width_wanted(session, &wanted);
-    while_paused(session, &mut told);
+    look(session, &mut told);
     told
 }
 
@@ -487,8 +561,9 @@ fn tell_item(width: u8, item: &Item, progress: &mut CamacProgress)
             progress.wait = done.wait;
             progress.x = flag_of(done.reply.x);
             progress.q = flag_of(done.reply.q);
-            progress.word = word_of(done);
-            progress.cut = cut_of(width, done);
+            let word = word_of(done);
+            progress.word = word;
+            progress.cut = cut_of(width, word);
         }
         Item::Lock(c, wait) => {
             progress.kind = LOCK;
@@ -517,11 +592,10 @@ fn word_of(done: &CycleDone) -> u32
 
 // Its bits above this width.
 #[inline(always)]
-fn cut_of(width: u8, done: &CycleDone) -> u32
-    ensures { result ≡ cut_in width done.now }
+fn cut_of(width: u8, word: u32) -> u32
+    ensures { result ≡ (if nat_lt width 24 then word - word % 2 ^ width else 0) }
 {
     if width < 24 {
-        let word = word_of(done);
         word - word % (1 << width)
     } else {
         0

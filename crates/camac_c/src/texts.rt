@@ -6,7 +6,8 @@ ghost use Rattle.camac_c.specs.Texts.{AnswersAsked, AnswersEvents, AnswersPlan, 
 
 use crate::filling::{code_of, give_answer, give_nothing};
 use crate::plain::MISUSE;
-use camac_tool::{Ask, PlanAsk, PlanSource, Turns, answer, answer_plan, engine_events, engine_run};
+use camac_engines::{Ask, PlanAsk, PlanSource, Turns, answer, answer_plan, engine_events};
+use camac_tool_run::engine_run;
 use camac_word::Watched;
 use std::alloc::Global;
 

@@ -35,7 +35,8 @@ pub extern "C" fn camac_raw_to_write(alloc: Global, handle: &mut Handle, bytes: 
     handle.ask(alloc, SessionAsk::ToWrite, bytes).count
 }
 
-fn mode_of(mode: TransferMode) -> u32
+/// The number of a mode.
+pub fn mode_of(mode: TransferMode) -> u32
     ensures { result ≡ mode_in mode }
 {
     match mode {

@@ -1,7 +1,9 @@
 -- The rows of each statement, and of the turns of an `each`.
 use Rattle.std.proofs.Common.{◌≡◌, ℕ, ◌+◌, List, [], ◌∷◌, ◌++◌, map, Option, Some, None, Result, Ok, false, refl, sym, ap, ap₂, ◌∙◌, suc, ◌-◌, ◌≤◌, Err, arith}
-use Rattle.std.specs.Prelude.{IsTrue, is_some, unwrap_or, option_map}
-use Rattle.camac_lang.specs.Tree.{Expression, Condition, Keep, Statement, assign, set_register, single, address_scan, q_stop, q_repeat, put, crate_call, lam_call, choose, choose_else, for_, for_each, while_, locked, call, Block, next, spot_of}
+use Rattle.std.specs.Prelude.{is_some, unwrap_or, option_map}
+use Rattle.camac_lang.specs.Tree.{Expression, Condition, Keep, Statement, choose, choose_else, for_, for_each, while_, locked, Block, next, spot_of}
+use Rattle.camac_lang.specs.View.{action_of}
+use Rattle.camac_lang.specs.declared.tree.Action.{Action}
 use Rattle.camac_lang.specs.declared.spot.Spot.{Spot}
 use Rattle.camac_range.specs.Interval.{only}
 use Rattle.camac_branch.specs.Plan.{crate_waits}
@@ -28,11 +30,11 @@ use Rattle.camac_check_rows.specs.declared.row.Detail.{Detail}
 use Rattle.camac_check_rows.specs.declared.row.Detail.TheVariants as detail
 use Rattle.camac_check_rows.specs.declared.row.Row.{Row}
 use Rattle.camac_check_rows.specs.declared.inside.Weight.{Weight}
-use Rattle.camac_check_rows.specs.Statements.{is_simple, kind_of, detail_of, first_row}
+use Rattle.camac_check_rows.specs.Statements.{kind_of, detail_of, first_row}
 use Rattle.camac_check_rows.specs.Weights.{once, turning, first_arm, second_arm, inside_row}
 use Rattle.camac_check_rows.specs.Rows.{found, Turning, turning_from, loop_detail, loop_share, lock_share, lock_detail, lock_inside, lock_head, statement_verdict, block_verdict, simple_row, else_row, times_at, inside, statement_rows, block_rows, with_rows}
 use Rattle.camac_check_rows.specs.Turns.{merge, Turned, turned, turns_over, each_turned}
-use Rattle.camac_check_rows.proofs.Merged.{none_turned}
+use Rattle.camac_check_rows.proofs.Merged.{action_rows, none_turned}
 use Rattle.camac_check_known.specs.declared.fault.CheckFault.{CheckFault}
 use Rattle.camac_check_known.specs.declared.fault.CheckFault.TheVariants.{OutOfMemory, Broken}
 use Rattle.camac_check_known.specs.Gives.{Fails}
@@ -47,33 +49,16 @@ pub simple_is : (c : Context) (around : Around) (s : Statement) (k : Facts) (v :
     → simple_row c around s (Some k) ≡ first_row (spot_of s) (kind_of s) 1 v.costs v.costs (detail_of c s (Some k))
 simple_is c around s k v e = ap (λ w. first_row (spot_of s) (kind_of s) 1 w.costs w.costs (detail_of c s (Some k))) (verdict_is c around s (Some k) v e)
 
-pub simple_rows : (c : Context) (around : Around) (s : Statement) (k : Known) → IsTrue (is_simple s) → statement_rows c around s k ≡ simple_row c around s k ∷ []
-simple_rows c around (assign spot x e) k h = refl
-simple_rows c around (set_register spot r e1 e2 e3) k h = refl
-simple_rows c around (single spot size f r move) k h = refl
-simple_rows c around (address_scan spot f r1 r2 max x) k h = refl
-simple_rows c around (q_stop spot f r t max x) k h = refl
-simple_rows c around (q_repeat spot f r t max limit x) k h = refl
-simple_rows c around (put spot e) k h = refl
-simple_rows c around (crate_call spot which e) k h = refl
-simple_rows c around (lam_call spot which l) k h = refl
-simple_rows c around (call spot p es) k h = refl
-simple_rows c around (choose spot test a) k h = absurd (cc)
-simple_rows c around (choose_else spot test a b) k h = absurd (cc)
-simple_rows c around (for_ spot x e1 e2 keeps body) k h = absurd (cc)
-simple_rows c around (for_each spot x v last body) k h = absurd (cc)
-simple_rows c around (while_ spot test most m keeps body) k h = absurd (cc)
-simple_rows c around (locked spot e body) k h = absurd (cc)
-
--- the one row of a statement that holds no others
-pub simple_found : (c : Context) (around : Around) (s : Statement) (k : Facts) (v : Verdict) (told : Detail) (rows : List Row)
-    → IsTrue (is_simple s) → if_reached unreached (Some k) (accept_statement c around s) ≡ Ok v → told ≡ detail_of c s (Some k)
-    → rows ≡ first_row (spot_of s) (kind_of s) 1 v.costs v.costs told ∷ [] → rows ≡ statement_rows c around s (Some k)
-simple_found c around s k v told rows h e d r =
+-- the one row of an action
+pub action_found : (c : Context) (around : Around) (a : Action) (k : Facts) (v : Verdict) (told : Detail) (rows : List Row)
+    → if_reached unreached (Some k) (accept_statement c around (action_of a)) ≡ Ok v → told ≡ detail_of c (action_of a) (Some k)
+    → rows ≡ first_row (spot_of (action_of a)) (kind_of (action_of a)) 1 v.costs v.costs told ∷ [] → rows ≡ statement_rows c around (action_of a) (Some k)
+action_found c around a k v told rows e d r =
+    let s = action_of a in
     r
     ∙ ap (λ x. first_row (spot_of s) (kind_of s) 1 v.costs v.costs x ∷ []) d
     ∙ ap (λ x. x ∷ []) (sym (simple_is c around s k v e))
-    ∙ sym (simple_rows c around s (Some k) h)
+    ∙ sym (action_rows c around a (Some k))
 
 pub if_rows : (c : Context) (around : Around) (spot : Spot) (test : Condition) (a : Block) (k : Facts) (arms : Branches) (first : Verdict)
     → split spot test k ≡ Ok arms → if_reached unreached arms.holds (accept_block c around a) ≡ Ok first

@@ -5,7 +5,7 @@ use Rattle.camac_rules.specs.Accept.{accept}
 use Rattle.camac_rules.specs.Fault.{broken}
 use Rattle.camac_check_known.specs.declared.fault.CheckFault.{CheckFault}
 use Rattle.camac_check_known.specs.declared.fault.CheckFault.TheVariants.{OutOfMemory, Broken}
-use Rattle.camac_checked.specs.Checked.{CheckedScript}
+use Rattle.camac_rules.specs.Checked.{CheckedScript}
 
 -- Accepted exactly where no rule is broken, with the costs as bounds; else the first broken rule; or memory ran out.
 abbrev pub Judges : LinkedScript → Result CheckedScript CheckFault → Type 0

@@ -16,10 +16,9 @@ use camac_check_known::{Around, CheckFault, Costs, Facts};
 use camac_check_loops::count_block;
 use camac_check_rows::Rows;
 use camac_check_simple::Context;
-use camac_checked::Bounds;
 use camac_lang::{Item, Procedure, Script, Service, Spot};
 use camac_names::{LinkCase, LinkRule};
-use camac_rules::{Body, Case, CheckRule};
+use camac_rules::{Body, Bounds, Case, CheckRule};
 use std::alloc::Global;
 
 /// What each service can cost.

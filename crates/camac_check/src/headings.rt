@@ -13,10 +13,10 @@ use crate::fault::LeastFault;
 use crate::judge::check;
 use camac_branch::Plan;
 use camac_check_simple::Context;
-use camac_checked::{Bounds, Checked};
 use camac_lang::{Item, Script};
 use camac_names::laws::first_is_link_fault;
 use camac_names::{link_faults, resolve};
+use camac_rules::{Bounds, Checked};
 use std::alloc::Global;
 
 /// The script with the least headings that its bodies need, checked: the numbers of each heading are the costs of its body by the

@@ -1,13 +1,13 @@
 // The check of a linked script.
 
 ghost use Rattle.std.specs.Prelude.{IfOk};
-ghost use Rattle.camac_checked.specs.Checked.{IsChecked};
+ghost use Rattle.camac_rules.specs.Checked.{IsChecked};
 ghost use Rattle.camac_check.specs.Judges.{Judges};
 
 use crate::accept::accept_script;
 use camac_check_known::CheckFault;
-use camac_checked::Checked;
 use camac_names::Linked;
+use camac_rules::Checked;
 use std::alloc::Global;
 
 /// Checks a linked script. It is accepted exactly where no rule is broken, with the costs of each service as its bounds. Else the error is

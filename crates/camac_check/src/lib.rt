@@ -12,8 +12,7 @@ mod statement;
 
 pub use camac_check_known::CheckFault;
 pub use camac_check_simple::{Context, Findings};
-pub use camac_checked::{Bounds, Checked};
-pub use camac_rules::CheckRule;
+pub use camac_rules::{Bounds, CheckRule, Checked};
 pub use fault::LeastFault;
 pub use headings::least;
 pub use judge::check;

@@ -12,8 +12,8 @@ use crate::accept::{accept_procedure, accept_service};
 use camac_branch::Plan;
 use camac_check_known::CheckFault;
 use camac_check_simple::Context;
-use camac_checked::Bounds;
 use camac_lang::{Item, Script, Service};
+use camac_rules::Bounds;
 use std::alloc::{AllocError, Global};
 
 /// All that is refused of a script that linking does not refuse, in text order: of each procedure and service the first rule that its body

@@ -1,9 +1,9 @@
 // The rules of all statements, and of blocks of them.
 
-ghost use Rattle.std.specs.Prelude.{◌≡◌, ◌≤◌, ◌+◌, ◌-◌, IfErr, IfOk, IsFalse, IsTrue, None, OnOk, Some, map, option_map};
+ghost use Rattle.std.specs.Prelude.{◌≡◌, ◌≤◌, ◌+◌, ◌-◌, IfErr, IfOk, None, OnOk, Some, map, option_map};
 ghost use Rattle.camac_range.specs.Interval.{only};
 ghost use Rattle.camac_lang.specs.Tree.{choose, for_each, locked};
-ghost use Rattle.camac_lang.specs.View.{expression_of, for_of, keep_of, part_of, statement_of, statements_of, while_of};
+ghost use Rattle.camac_lang.specs.View.{action_of, expression_of, for_of, keep_of, part_of, statement_of, statements_of, while_of};
 ghost use Rattle.camac_rules.specs.Capped.{capped};
 ghost use Rattle.camac_rules.specs.Known.{with_range};
 ghost use Rattle.camac_rules.specs.Loops.{for_rule, with_fixed};
@@ -11,7 +11,6 @@ ghost use Rattle.camac_rules.specs.Costs.{no_costs, unreached, verdict};
 ghost use Rattle.camac_rules.specs.Refusal.{if_reached};
 ghost use Rattle.camac_rules.specs.Statements.{accept_statement, accept_block};
 ghost use Rattle.camac_check_rows.specs.Rows.{block_rows, block_verdict, statement_rows, with_rows};
-ghost use Rattle.camac_check_rows.specs.Statements.{is_simple};
 ghost use Rattle.camac_check_rows.specs.Turns.{turned, turns_over};
 ghost use Rattle.camac_check.specs.Ends.{each_judged, loop_end, turn_rule, with_turn};
 ghost use Rattle.camac_check_simple.specs.Gives.{Gives, by_code, leaving, verdict_of};
@@ -29,7 +28,7 @@ use camac_check_simple::{
     Context, Findings, Place, assign, crate_call, lam_call, lock_crate, put, q_repeat, q_stop,
     scan, set_register, single,
 };
-use camac_lang::{Expr, ForHead, Keep, Part, Spot, Stmt, WhileHead};
+use camac_lang::{Action, Expr, ForHead, Keep, Part, Spot, Stmt, WhileHead};
 use camac_rules::Body;
 use std::alloc::{AllocError, Global};
 
@@ -60,6 +59,7 @@ pub fn accept_block(
 
 /// Checks a statement, if it can be reached, and puts its rows. What was known before it is changed in place.
 #[cycle(statements)]
+#[tactic(auto, unfolding(camac_rules::specs::Refusal::if_reached))]
 #[inline(always)]
 pub fn accept_next(
     alloc: Global,
@@ -73,47 +73,31 @@ pub fn accept_next(
     ensures rows { OnOk result (rows.new ≡ with_rows rows.old (statement_rows (by_code context.now) around.now (statement_of statement.now) known.old)) }
 {
     let place = Place { context, around };
-    if is_simple(statement) {
-        return accept_simple(alloc, &place, statement, known, rows);
-    }
-    Ok(accept_outer(alloc, &place, statement, known, rows)?)
-}
-
-// Whether a statement holds no others.
-fn is_simple(statement: &Stmt) -> bool
-    ensures { result ≡ is_simple (statement_of statement.now) }
-{
     match statement {
-        Stmt::If { .. }
-        | Stmt::IfElse { .. }
-        | Stmt::For { .. }
-        | Stmt::ForEach { .. }
-        | Stmt::While { .. }
-        | Stmt::Lock { .. } => false,
-        _ => true,
+        Stmt::Action(action) => match known {
+            Some(facts) => accept_action(alloc, &place, action, facts, rows),
+            None => pass_over(alloc, context, statement, rows),
+        },
+        _ => Ok(accept_outer(alloc, &place, statement, known, rows)?),
     }
 }
 
-// Checks a statement that holds no others.
-#[tactic(auto, using(crate::proofs::Rows::off), unfolding(camac_rules::specs::Refusal::if_reached))]
-fn accept_simple(
+// Checks an action that can be reached.
+#[tactic(auto, using(crate::proofs::Rows::off))]
+fn accept_action(
     alloc: Global,
     place: &Place,
-    statement: &Stmt,
-    known: &mut Option<Facts>,
+    action: &Action,
+    known: &mut Facts,
     rows: &mut Rows,
 ) -> Result<Costs, CheckFault>
-    requires { IsTrue (is_simple (statement_of statement.now)) }
-    ensures found { Gives (verdict known.new) result (if_reached unreached known.old (accept_statement (by_code place.now.context.now) place.now.around.now (statement_of statement.now))) }
-    ensures rows { OnOk result (rows.new ≡ with_rows rows.old (statement_rows (by_code place.now.context.now) place.now.around.now (statement_of statement.now) known.old)) }
+    ensures found { Gives (leaving known.new) result (accept_statement (by_code place.now.context.now) place.now.around.now (action_of action.now) known.old) }
+    ensures rows { OnOk result (rows.new ≡ with_rows rows.old (statement_rows (by_code place.now.context.now) place.now.around.now (action_of action.now) (Some known.old))) }
 {
-    let Some(known) = known else {
-        return pass_over(alloc, place.context, statement, rows);
-    };
     if rows.are_kept() {
-        return with_its_row(alloc, place, statement, known, rows);
+        return with_its_row(alloc, place, action, known, rows);
     }
-    by_its_rule(alloc, place, statement, known)
+    by_its_rule(alloc, place, action, known)
 }
 
 // Passes over a statement that can't be reached. It stands apart, since this is rare.
@@ -133,57 +117,49 @@ fn pass_over(
     Ok(Costs::new(0, 0, 0))
 }
 
-// A statement that holds no others where rows are kept. It stands apart, so that a check makes no room for its row.
+// An action where rows are kept. It stands apart, so that a check makes no room for its row.
 #[inline(never)]
 #[tactic(auto, unfolding(camac_rules::specs::Refusal::if_reached))]
 fn with_its_row(
     alloc: Global,
     place: &Place,
-    statement: &Stmt,
+    action: &Action,
     known: &mut Facts,
     rows: &mut Rows,
 ) -> Result<Costs, CheckFault>
-    requires { IsTrue (is_simple (statement_of statement.now)) }
-    ensures found { Gives (leaving known.new) result (accept_statement (by_code place.now.context.now) place.now.around.now (statement_of statement.now) known.old) }
-    ensures rows { OnOk result (rows.new ≡ with_rows rows.old (statement_rows (by_code place.now.context.now) place.now.around.now (statement_of statement.now) (Some known.old))) }
+    ensures found { Gives (leaving known.new) result (accept_statement (by_code place.now.context.now) place.now.around.now (action_of action.now) known.old) }
+    ensures rows { OnOk result (rows.new ≡ with_rows rows.old (statement_rows (by_code place.now.context.now) place.now.around.now (action_of action.now) (Some known.old))) }
 {
-    let detail = detail_of(place.context, statement, Some(known))?;
-    let costs = by_its_rule(alloc, place, statement, known)?;
-    rows.put(statement, costs, detail)?;
+    let detail = detail_of(place.context, action, Some(known))?;
+    let costs = by_its_rule(alloc, place, action, known)?;
+    rows.put(action, costs, detail)?;
     Ok(costs)
 }
 
-// The rule of a statement that holds no others.
+// The rule of an action.
 fn by_its_rule(
     alloc: Global,
     place: &Place,
-    statement: &Stmt,
+    action: &Action,
     known: &mut Facts,
 ) -> Result<Costs, CheckFault>
-    requires { IsTrue (is_simple (statement_of statement.now)) }
-    ensures { Gives (leaving known.new) result (accept_statement (by_code place.now.context.now) place.now.around.now (statement_of statement.now) known.old) }
+    ensures { Gives (leaving known.new) result (accept_statement (by_code place.now.context.now) place.now.around.now (action_of action.now) known.old) }
 {
-    match statement {
-        Stmt::Assign(assignment) => assign(place.around, assignment, known),
-        Stmt::SetRegister(setting) => set_register(setting, known),
-        Stmt::Put(action) => put(action, known),
-        Stmt::Single(action) => single(place, action, known),
-        Stmt::CrateCall(action) => crate_call(place, action, known),
-        Stmt::LamCall(action) => lam_call(place, action, known),
-        Stmt::Scan(transfer) => scan(place, transfer, known),
-        Stmt::QStop { transfer } => q_stop(place, transfer, known),
-        Stmt::QRepeat { transfer, limit } => q_repeat(place, transfer, limit, known),
-        Stmt::Call(called) => call(alloc, place.context, called, known),
-        Stmt::If { .. }
-        | Stmt::IfElse { .. }
-        | Stmt::For { .. }
-        | Stmt::ForEach { .. }
-        | Stmt::While { .. }
-        | Stmt::Lock { .. } => unreachable!(),
+    match action {
+        Action::Assign(assignment) => assign(place.around, assignment, known),
+        Action::SetRegister(setting) => set_register(setting, known),
+        Action::Put(action) => put(action, known),
+        Action::Single(action) => single(place, action, known),
+        Action::CrateCall(action) => crate_call(place, action, known),
+        Action::LamCall(action) => lam_call(place, action, known),
+        Action::Scan(transfer) => scan(place, transfer, known),
+        Action::QStop { transfer } => q_stop(place, transfer, known),
+        Action::QRepeat { transfer, limit } => q_repeat(place, transfer, limit, known),
+        Action::Call(called) => call(alloc, place.context, called, known),
     }
 }
 
-// Checks a statement that holds others. It stands apart, as those below do, so that no other statement makes room for its variables.
+// Checks a statement that holds blocks. It stands apart, as those below do, so that an action makes no room for its variables.
 #[inline(never)]
 #[cycle(statements)]
 #[tactic(auto, unfolding(camac_rules::specs::Refusal::if_reached))]
@@ -194,7 +170,6 @@ fn accept_outer(
     known: &mut Option<Facts>,
     rows: &mut Rows,
 ) -> Result<Costs, CheckFault>
-    requires { IsFalse (is_simple (statement_of statement.now)) }
     ensures found { Gives (verdict known.new) result (if_reached unreached known.old (accept_statement (by_code place.now.context.now) place.now.around.now (statement_of statement.now))) }
     ensures rows { OnOk result (rows.new ≡ with_rows rows.old (statement_rows (by_code place.now.context.now) place.now.around.now (statement_of statement.now) known.old)) }
 {
@@ -208,7 +183,7 @@ fn accept_outer(
     }
 }
 
-// Checks a statement that holds others and can be reached.
+// Checks a statement that can be reached.
 #[cycle(statements)]
 #[tactic(auto, unfolding(camac_rules::specs::Refusal::go_on, camac_rules::specs::Refusal::if_reached))]
 fn accept_reached(
@@ -218,7 +193,6 @@ fn accept_reached(
     known: Facts,
     rows: &mut Rows,
 ) -> Result<Findings, CheckFault>
-    requires { IsFalse (is_simple (statement_of statement.now)) }
     ensures found { Gives verdict_of result (accept_statement (by_code place.now.context.now) place.now.around.now (statement_of statement.now) known) }
     ensures rows { OnOk result (rows.new ≡ with_rows rows.old (statement_rows (by_code place.now.context.now) place.now.around.now (statement_of statement.now) (Some known))) }
 {
@@ -241,9 +215,9 @@ fn accept_reached(
             let second = accept_block(alloc, context, around, otherwise, ways.fails, &mut two)?;
             let costs = first.costs.or(second.costs);
             let own = if_row(*spot, costs);
-            rows.put_block(own, &one, first_arm(first.costs, second.costs))?;
+            rows.put_block(alloc, own, one, first_arm(first.costs, second.costs))?;
             let other = else_row(*spot, times, second.costs);
-            rows.put_block(other, &two, second_arm(first.costs, second.costs))?;
+            rows.put_block(alloc, other, two, second_arm(first.costs, second.costs))?;
             Ok(Findings {
                 known: join(alloc, first.known, second.known)?,
                 costs,
@@ -271,16 +245,14 @@ fn accept_reached(
             accept_each(alloc, place, head, body, known, rows)
         }
         Stmt::While { head, body } => accept_while(alloc, place, head, body, known, rows),
-        Stmt::Assign(_)
-        | Stmt::SetRegister(_)
-        | Stmt::Single(_)
-        | Stmt::Scan(_)
-        | Stmt::QStop { .. }
-        | Stmt::QRepeat { .. }
-        | Stmt::Put(_)
-        | Stmt::CrateCall(_)
-        | Stmt::LamCall(_)
-        | Stmt::Call(_) => unreachable!(),
+        Stmt::Action(action) => {
+            let mut known = known;
+            let costs = accept_action(alloc, place, action, &mut known, rows)?;
+            Ok(Findings {
+                known: Some(known),
+                costs,
+            })
+        }
     }
 }
 
@@ -305,7 +277,7 @@ fn accept_if(
     let around = place.around;
     let first = accept_block(alloc, place.context, around, then, ways.holds, &mut inner)?;
     let costs = first.costs.or(Costs::new(0, 0, 0));
-    rows.put_block(if_row(spot, costs), &inner, once())?;
+    rows.put_block(alloc, if_row(spot, costs), inner, once())?;
     Ok(Findings {
         known: join(alloc, first.known, ways.fails)?,
         costs,
@@ -334,7 +306,7 @@ fn accept_lock(
     let found = accept_block(alloc, place.context, &inside, body, Some(known), &mut inner)?;
     let waits = waits_of(place.context.plan, c);
     let costs = found.costs.in_lock(waits);
-    rows.put_block(lock_row(spot, costs, waits, c), &inner, once())?;
+    rows.put_block(alloc, lock_row(spot, costs, waits, c), inner, once())?;
     Ok(Findings {
         known: found.known,
         costs,
@@ -366,7 +338,7 @@ fn accept_while(
     let most = u64::from(most);
     let found = end_loop(around.body(), spot, &limited.keeps, ways.fails, most, turn)?;
     let own = loop_row(spot, Kind::While, found.costs, most);
-    rows.put_block(own, &inner, turning(most))?;
+    rows.put_block(alloc, own, inner, turning(most))?;
     Ok(found)
 }
 
@@ -403,7 +375,7 @@ fn accept_for(
         turn,
     )?;
     let own = loop_row(spot, Kind::For, found.costs, turns);
-    rows.put_block(own, &inner, turning(turns))?;
+    rows.put_block(alloc, own, inner, turning(turns))?;
     Ok(found)
 }
 
@@ -433,7 +405,7 @@ fn accept_each(
         alloc, &inside, head, turns, body, known, &mut all,
     )?;
     let own = loop_row(head.spot, Kind::For, found.costs, reached);
-    rows.put_block(own, &all, once())?;
+    rows.put_block(alloc, own, all, once())?;
     Ok(found)
 }
 
@@ -532,7 +504,7 @@ fn accept_turn(
         Some(begun),
         &mut own,
     )?;
-    rows.merge(&own)?;
+    rows.merge(alloc, own)?;
     *known = turn.known;
     Ok(Costs::new(0, 0, 1).then(turn.costs))
 }

@@ -22,7 +22,7 @@ use Rattle.camac_rules.specs.Conditions.{Branches, split}
 use Rattle.camac_rules.specs.Each.{each_begins}
 use Rattle.camac_rules.specs.Loops.{Limits, with_fixed, for_limits, for_head, while_head}
 use Rattle.camac_check_simple.specs.Gives.{Fails}
-use Rattle.camac_check_rows.proofs.Trees.{next_of}
+use Rattle.camac_lang.proofs.Trees.{next_of}
 use Rattle.camac_check_costs.specs.Places.{Place, holds, holds_at, each_around, each_at, place_in, place_in_block, place, HasPlace, BlockHasPlace, at_turn, IsTold, at_one, at_both, IsAt, PlacesAreFound, TurnsAreTold, begins_at, each_inside, chosen_inside, are_chosen, locked_in_both, told_of_both, left_by, over_turns, in_turns, place_inside}
 use Rattle.camac_check_costs.specs.declared.turns.EachLoop.{EachLoop}
 use Rattle.camac_range.specs.Interval.{only}
@@ -121,31 +121,31 @@ same_place q p e = cc
 -- ---- a place, or what is told over several
 
 -- where a turn is chosen of each `each`, the place itself
-abbrev Tells : (Place → Type 0) → Bool → Place → Type 0
-Tells P true told = P told
-Tells P false told = IsTold P told
+abbrev TellsOver : (Place → Type 0) → Bool → Place → Type 0
+TellsOver P true told = P told
+TellsOver P false told = IsTold P told
 
 told_more : (P Q : Place → Type 0) → ((p : Place) → P p → Q p) → (told : Place) → IsTold P told → IsTold Q told
 told_more P Q more told (at_one p i) = at_one p (more p i)
 told_more P Q more told (at_both p q i j) = at_both p q (told_more P Q more p i) (told_more P Q more q j)
 
-tells_more : (P Q : Place → Type 0) → ((p : Place) → P p → Q p) → (b : Bool) (told : Place) → Tells P b told → Tells Q b told
+tells_more : (P Q : Place → Type 0) → ((p : Place) → P p → Q p) → (b : Bool) (told : Place) → TellsOver P b told → TellsOver Q b told
 tells_more P Q more true told h = more told h
 tells_more P Q more false told h = told_more P Q more told h
 
-is_told : (P : Place → Type 0) (b : Bool) (told : Place) → Tells P b told → IsTold P told
+is_told : (P : Place → Type 0) (b : Bool) (told : Place) → TellsOver P b told → IsTold P told
 is_told P true told h = at_one told h
 is_told P false told h = h
 
 by_choice : (P : Option Statement → Place → Type 0) (b : Bool) (s : Option Statement) (xs : List EachLoop) (turns : List ℕ) (here p : Place) (f : Found)
-    → (b ≡ true → P (Some here.statement) here) → (f ≡ Ok (Some p) → Tells (P s) (are_chosen xs turns) p)
-    → (if b then Ok (Some here) else f) ≡ Ok (Some p) → Tells (P (if b then Some here.statement else s)) (are_chosen (if b then [] else xs) turns) p
+    → (b ≡ true → P (Some here.statement) here) → (f ≡ Ok (Some p) → TellsOver (P s) (are_chosen xs turns) p)
+    → (if b then Ok (Some here) else f) ≡ Ok (Some p) → TellsOver (P (if b then Some here.statement else s)) (are_chosen (if b then [] else xs) turns) p
 by_choice P true s xs turns here p f h g e = subst (P (Some here.statement)) (same_place here p e) (h refl)
 by_choice P false s xs turns here p f h g e = g e
 
 in_either : (P : Option Statement → Place → Type 0) (b : Bool) (first other : Found) (s u : Option Statement) (xs ys : List EachLoop) (turns : List ℕ) (p : Place)
-    → (first ≡ Ok (Some p) → Tells (P s) (are_chosen xs turns) p) → (other ≡ Ok (Some p) → Tells (P u) (are_chosen ys turns) p)
-    → (if b then first else other) ≡ Ok (Some p) → Tells (P (if b then s else u)) (are_chosen (if b then xs else ys) turns) p
+    → (first ≡ Ok (Some p) → TellsOver (P s) (are_chosen xs turns) p) → (other ≡ Ok (Some p) → TellsOver (P u) (are_chosen ys turns) p)
+    → (if b then first else other) ≡ Ok (Some p) → TellsOver (P (if b then s else u)) (are_chosen (if b then xs else ys) turns) p
 in_either P true first other s u xs ys turns p h g e = h e
 in_either P false first other s u xs ys turns p h g e = g e
 
@@ -162,7 +162,7 @@ both_told P (Some p) (Some q) h g = at_both p q h g
 
 -- a place of one of these turns is told so
 abbrev EachTells : (P : Place → Type 0) (count x v : ℕ) (check : Facts → Result Verdict Fault) (k : Facts) → (Facts → Place → Type 0) → Type 0
-EachTells P count x v check k Tells = (turn : ℕ) → turn < count → (t : Facts) → at_turn check x v turn k ≡ Ok (Some t) → (p : Place) → Tells t p
+EachTells P count x v check k Says = (turn : ℕ) → turn < count → (t : Facts) → at_turn check x v turn k ≡ Ok (Some t) → (p : Place) → Says t p
 
 pub next_turn : (check : Facts → Result Verdict Fault) (x v turn : ℕ) (k q : Facts) (left : Verdict) → check (with_range x (only v) k) ≡ Ok left → left.after ≡ Some q
     → at_turn check x v (suc turn) k ≡ at_turn check x (v + 1) turn q
@@ -208,8 +208,8 @@ if_so true f p e = (refl, e)
 if_so false f p e = absurd (cc)
 
 turns_tell : (P : Place → Type 0) (test : List ℕ → Bool) (count x v : ℕ) (check : Facts → Result Verdict Fault) (find : List ℕ → Facts → Found) (k : Facts) (turns : List ℕ) (p : Place)
-    → ((inner : List ℕ) → EachTells P count x v check k (λ t q. find inner t ≡ Ok (Some q) → Tells P (test inner) q))
-    → in_turns count x v check find k turns ≡ Ok (Some p) → Tells P (chosen_inside test turns) p
+    → ((inner : List ℕ) → EachTells P count x v check k (λ t q. find inner t ≡ Ok (Some q) → TellsOver P (test inner) q))
+    → in_turns count x v check find k turns ≡ Ok (Some p) → TellsOver P (chosen_inside test turns) p
 turns_tell P test count x v check find k [] p each e =
     all_told P count x v check (find []) k None p (λ turn lt t at q i. is_told P (test []) q (each [] turn lt t at q i)) tt e
 turns_tell P test count x v check find k (value ∷ inner) p each e =
@@ -263,7 +263,7 @@ There c around b k n o p = IsAt c around b k n p × IsPlaced o around.body p
 
 mutual
   inside : (c : Context) (around : Around) (s : Statement) (k : Facts) (n : ℕ) (turns : List ℕ) (p : Place) → place_inside c around s k n turns ≡ Ok (Some p)
-      → Tells (Inside c around s k n (statement_inside s n)) (are_chosen (each_inside n s) turns) p
+      → TellsOver (Inside c around s k n (statement_inside s n)) (are_chosen (each_inside n s) turns) p
   inside c around (choose spot test a) k n turns p e =
       let find : Facts → Found = λ t. place_in_block c around a t n turns in
       let o : Option Statement = statement_in a n in
@@ -322,7 +322,7 @@ mutual
   inside c around s k n turns p e = absurd (cc)
 
   block_inside : (c : Context) (around : Around) (b : Block) (k : Facts) (n : ℕ) (turns : List ℕ) (p : Place) → place_in_block c around b k n turns ≡ Ok (Some p)
-      → Tells (There c around b k n (statement_in b n)) (are_chosen (each_around n b) turns) p
+      → TellsOver (There c around b k n (statement_in b n)) (are_chosen (each_around n b) turns) p
   block_inside c around done k n turns p e = absurd (cc)
   block_inside c around (next s rest) k n turns p e =
       let find : Facts → Found = λ t. place_in_block c around rest t n turns in
@@ -353,7 +353,7 @@ placed_in c around b k n turns p e =
 
 pub places_are_found : PlacesAreFound
 places_are_found c around block start n turns p are e =
-    (subst (λ b. Tells (There c around block start n (statement_in block n)) b p) are (block_inside c around block start n turns p e)).0
+    (subst (λ b. TellsOver (There c around block start n (statement_in block n)) b p) are (block_inside c around block start n turns p e)).0
 
 pub turns_are_told : TurnsAreTold
 turns_are_told c around block start n turns told e =

@@ -21,18 +21,18 @@ use Rattle.camac_check_rows.specs.Rows.{block_rows, found, with_rows}
 abbrev pub body_of : Owner → Bounds → List Row → BodyRows
 body_of whose costs rows = record { owner = whose; costs = costs; rows = rows }
 
-abbrev pub told : Owner → Result Verdict Fault → List Row → BodyRows
-told whose q rows = body_of whose (found unreached q).costs (rows_if q rows)
+abbrev pub body_told : Owner → Result Verdict Fault → List Row → BodyRows
+body_told whose q rows = body_of whose (found unreached q).costs (rows_if q rows)
 
 pub body_found : (c : Context) (whose : Owner) (around : Around) (b : Block) (k : Known) (v : Verdict) (new kept : Option (List Row)) (rows : List Row)
     → if_reached unreached k (accept_block c around b) ≡ Ok v → new ≡ Some [] → kept ≡ with_rows new (block_rows c around b k) → rows ≡ unwrap_or kept []
     → body_of whose v.costs rows ≡ body_costs c whose around b k
 body_found c whose around b k v new kept rows e en ek er =
-    ap₂ (told whose) (sym e) (er ∙ ap (λ z. unwrap_or z []) (ek ∙ ap (λ z. with_rows z (block_rows c around b k)) en))
+    ap₂ (body_told whose) (sym e) (er ∙ ap (λ z. unwrap_or z []) (ek ∙ ap (λ z. with_rows z (block_rows c around b k)) en))
 
 pub body_refused : (c : Context) (whose : Owner) (around : Around) (b : Block) (k : Known) (f : Fault)
     → if_reached unreached k (accept_block c around b) ≡ Err f → body_of whose no_costs [] ≡ body_costs c whose around b k
-body_refused c whose around b k f e = ap (λ q. told whose q (block_rows c around b k)) (sym e)
+body_refused c whose around b k f e = ap (λ q. body_told whose q (block_rows c around b k)) (sym e)
 
 -- The lines of costs.
 

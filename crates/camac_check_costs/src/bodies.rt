@@ -172,7 +172,7 @@ fn body_costs(
         Ok(found) => Ok(BodyCosts {
             owner,
             costs: found.costs,
-            rows: rows.into_vec(alloc),
+            rows: rows.into_vec(alloc)?,
         }),
         Err(CheckFault::OutOfMemory) => Err(AllocError),
         Err(CheckFault::Broken { .. }) => Ok(BodyCosts {

@@ -8,7 +8,7 @@ use Rattle.camac_check_known.specs.declared.expression.Beyond.{Beyond}
 use Rattle.camac_lang.specs.declared.spot.Spot.{Spot}
 
 -- a range, or E4 at a spot, in the case of an operator
-abbrev pub Tells : Spot → Option Interval → Option Beyond → Result Interval Fault → Type 0
-Tells spot (Some r) beyond read = read ≡ Ok r
-Tells spot None (Some b) read = read ≡ Err (broken ValueOutOfRange spot (operation b.operator b.left b.right))
-Tells spot None None read = ⊥
+abbrev pub TellsRange : Spot → Option Interval → Option Beyond → Result Interval Fault → Type 0
+TellsRange spot (Some r) beyond read = read ≡ Ok r
+TellsRange spot None (Some b) read = read ≡ Err (broken ValueOutOfRange spot (operation b.operator b.left b.right))
+TellsRange spot None None read = ⊥

@@ -9,7 +9,7 @@ ghost use Rattle.camac_rules.specs.Refusal.{given};
 ghost use Rattle.camac_rules.specs.declared.rule.CheckRule.TheVariants.{ValueOutOfRange};
 ghost use Rattle.camac_check_known.specs.declared.fault.CheckFault.TheVariants.{Broken};
 ghost use Rattle.camac_check_known.specs.Gives.{Gives};
-ghost use Rattle.camac_check_known.specs.Told.{Tells};
+ghost use Rattle.camac_check_known.specs.Told.{TellsRange};
 ghost use Rattle.camac_lang.specs.declared.spot.Spot.{Spot};
 
 use crate::fault::{CheckFault, numbers_of};
@@ -62,7 +62,7 @@ pub fn range_of(spot: Spot, e: &Expr, ranges: &[Range]) -> Result<Range, CheckFa
 #[tactic(auto, unfolding(camac_rules::specs::Refusal::go_on, camac_rules::specs::Refusal::required))]
 #[inline(always)]
 fn reach(e: Term<'_>, ranges: &[Range], beyond: &mut Option<Beyond>) -> Option<Range>
-    ensures { (spot : Spot) → Tells spot result beyond.new (range_of spot (term_of e.entry) ranges.now) }
+    ensures { (spot : Spot) → TellsRange spot result beyond.new (range_of spot (term_of e.entry) ranges.now) }
 {
     match e.form() {
         Form::Number(n) => Some(Range::only(n)),
@@ -74,7 +74,7 @@ fn reach(e: Term<'_>, ranges: &[Range], beyond: &mut Option<Beyond>) -> Option<R
 #[cycle(reach)]
 #[tactic(auto, using(crate::proofs::Steps::steps), unfolding(camac_rules::specs::Refusal::go_on, camac_rules::specs::Refusal::given, camac_rules::specs::Refusal::required))]
 fn reach_operator(e: Term<'_>, ranges: &[Range], beyond: &mut Option<Beyond>) -> Option<Range>
-    ensures { (spot : Spot) → Tells spot result beyond.new (range_of spot (term_of e.entry) ranges.now) }
+    ensures { (spot : Spot) → TellsRange spot result beyond.new (range_of spot (term_of e.entry) ranges.now) }
 {
     match e.form() {
         Form::Number(n) => Some(Range::only(n)),
@@ -114,7 +114,7 @@ fn number_or(
     right: Range,
     beyond: &mut Option<Beyond>,
 ) -> Option<Range>
-    ensures { (spot : Spot) → Tells spot result beyond.new (given found ValueOutOfRange spot (operation operator left right)) }
+    ensures { (spot : Spot) → TellsRange spot result beyond.new (given found ValueOutOfRange spot (operation operator left right)) }
 {
     if found.is_none() {
         *beyond = Some(Beyond {

@@ -28,8 +28,8 @@ pub fn join(
 pub fn hulls(alloc: Global, first: &[Range], second: &[Range]) -> Result<Vec<Range>, AllocError>
     ensures { IfOk result (λ v. v.items ≡ hulls first.now second.now) }
 {
-    let mut all = Vec::new(alloc);
     let end = first.len().max(second.len());
+    let mut all = Vec::with_capacity(alloc, end)?;
     'places: for i in 0..end {
         all.push(range_in(first, i).hull(range_in(second, i)))?;
     }
@@ -44,8 +44,8 @@ pub fn join_registers(
 ) -> Result<Vec<Option<Region>>, AllocError>
     ensures { IfOk result (λ v. v.items ≡ join_registers first.now second.now) }
 {
-    let mut all = Vec::new(alloc);
     let end = first.len().min(second.len());
+    let mut all = Vec::with_capacity(alloc, end)?;
     'places: for i in 0..end {
         all.push(join_set(region_in(first, i), region_in(second, i)))?;
     }

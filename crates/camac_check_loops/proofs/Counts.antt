@@ -1,15 +1,8 @@
 -- The counts of loops, and the numbers of an `each`.
-use Rattle.std.proofs.Common.{◌≡◌, ℕ, zero, suc, ◌+◌, ◌-◌, ◌*◌, ◌^◌, ◌<◌, ◌≤◌, Ok, Err, Vec, sym, ap, ◌∙◌, ⊎_elim, arith, true}
+use Rattle.std.proofs.Common.{◌≡◌, ℕ, zero, suc, ◌+◌, ◌-◌, ◌*◌, ◌^◌, ◌<◌, ◌≤◌, Ok, Err, sym, ap, ◌∙◌, ⊎_elim, arith, true}
 use Rattle.std.proofs.Math.Nat.{mul-le-mul_left}
 use Rattle.std.proofs.lemmas.Bool.{cases_lt, le-leb, lt-leb}
 use Rattle.std.specs.Prelude.{min, ◌&&◌, nat_le}
-use Rattle.std.specs.declared.alloc.Global.{Global}
-use Rattle.camac_lang.specs.declared.tree.Stmt.{Stmt}
-use Rattle.camac_lang.specs.declared.tree.Stmt.TheVariants as rust
-use Rattle.camac_lang.specs.declared.tree.Stmt.TheFolds.{fold-roll-Stmt}
-use Rattle.camac_lang.specs.declared.tree.Stmt.TheOpen as layer
-use Rattle.camac_lang.specs.Tree.{Statement, for_each}
-use Rattle.camac_lang.specs.View.{statement_of, statements_of, statement_step}
 use Rattle.camac_lang.specs.declared.spot.Spot.{Spot}
 use Rattle.camac_rules.specs.declared.case.Body.{Body}
 use Rattle.camac_rules.specs.declared.case.Case.TheVariants.{Judged}
@@ -62,10 +55,6 @@ past_limit place spot needed n e lt =
     let large : judged_limit < n = omega (arith, e, lt) in
     ap (λ b. go_on (required b TooManyTurns spot (judged_case place n judged_limit)) (λ _. Ok n)) (lt-leb n judged_limit large)
     ∙ ap (λ m. Err (broken TooManyTurns spot (Judged place m 65536))) (sym e)
-
--- an `each` of the code as the tree has it
-pub each_is : (spot : Spot) (x first last : ℕ) (body : Vec Stmt Global) → statement_of (rust.ForEach spot x first last body) ≡ for_each spot x first last (statements_of body.items)
-each_is spot x first last body = ap statement_of (sym (rust.rolls-ForEach spot x first last body)) ∙ fold-roll-Stmt Statement statement_step (layer.ForEach spot x first last body)
 
 -- The numbers of an `each` are those of code.
 

@@ -55,9 +55,7 @@ fn count(place: Body, statement: &Stmt, before: u64) -> Result<u64, CheckFault>
         Stmt::For { body, .. } | Stmt::While { body, .. } | Stmt::Lock { body, .. } => {
             count_block(place, body, before)
         }
-        Stmt::Assign(_) | Stmt::SetRegister(_) | Stmt::Single(_) | Stmt::Put(_) => Ok(before),
-        Stmt::Scan(_) | Stmt::QStop { .. } | Stmt::QRepeat { .. } => Ok(before),
-        Stmt::CrateCall(_) | Stmt::LamCall(_) | Stmt::Call(_) => Ok(before),
+        Stmt::Action(_) => Ok(before),
     }
 }
 
@@ -115,8 +113,6 @@ fn judged(statement: &Stmt) -> u64
         Stmt::For { body, .. } | Stmt::While { body, .. } | Stmt::Lock { body, .. } => {
             block_judged(body).saturating_add(1)
         }
-        Stmt::Assign(_) | Stmt::SetRegister(_) | Stmt::Single(_) | Stmt::Put(_) => 1,
-        Stmt::Scan(_) | Stmt::QStop { .. } | Stmt::QRepeat { .. } => 1,
-        Stmt::CrateCall(_) | Stmt::LamCall(_) | Stmt::Call(_) => 1,
+        Stmt::Action(_) => 1,
     }
 }

@@ -1,12 +1,12 @@
 // What a body writes, and by how much a turn lowers a measure. All is read from the text.
 
 ghost use Rattle.std.specs.Prelude.{◌≡◌, ◌≤◌, IfSome};
-ghost use Rattle.camac_lang.specs.View.{term_of, move_of, statement_of, statements_of};
+ghost use Rattle.camac_lang.specs.View.{action_of, term_of, move_of, statement_of, statements_of};
 ghost use Rattle.camac_rules.specs.Conditions.{sole_variable};
 ghost use Rattle.camac_rules.specs.Writes.{reads_into, writes, block_writes, positive, is_variable, fall_by, fall_in, fall_of};
 
 use camac_check_known::sole_variable;
-use camac_lang::{Form, Move, Stmt, Term};
+use camac_lang::{Action, Form, Move, Stmt, Term};
 
 /// How much a turn takes from a measure: that of the one statement of the body itself that does so, where nothing else in it writes the
 /// measure.
@@ -46,12 +46,7 @@ fn writes(statement: &Stmt, variable: usize) -> bool
     ensures { result ≡ writes (statement_of statement.now) variable }
 {
     match statement {
-        Stmt::Assign(assignment) => variable == assignment.variable,
-        Stmt::Single(single) => reads_into(&single.data, variable),
-        Stmt::Scan(scan) => variable == scan.tally,
-        Stmt::QStop { transfer } | Stmt::QRepeat { transfer, .. } => variable == transfer.tally,
-        Stmt::SetRegister(_) | Stmt::Put(_) => false,
-        Stmt::CrateCall(_) | Stmt::LamCall(_) | Stmt::Call(_) => false,
+        Stmt::Action(action) => action_writes(action, variable),
         Stmt::If { then, .. } => block_writes(then, variable),
         Stmt::IfElse {
             then,
@@ -65,6 +60,19 @@ fn writes(statement: &Stmt, variable: usize) -> bool
             ..
         } => variable == *counted || block_writes(body, variable),
         Stmt::While { body, .. } | Stmt::Lock { body, .. } => block_writes(body, variable),
+    }
+}
+
+fn action_writes(action: &Action, variable: usize) -> bool
+    ensures { result ≡ writes (action_of action.now) variable }
+{
+    match action {
+        Action::Assign(assignment) => variable == assignment.variable,
+        Action::Single(single) => reads_into(&single.data, variable),
+        Action::Scan(scan) => variable == scan.tally,
+        Action::QStop { transfer } | Action::QRepeat { transfer, .. } => variable == transfer.tally,
+        Action::SetRegister(_) | Action::Put(_) => false,
+        Action::CrateCall(_) | Action::LamCall(_) | Action::Call(_) => false,
     }
 }
 
@@ -83,18 +91,14 @@ fn fall_in(measure: usize, statement: &Stmt) -> Option<u32>
     ensures positive { IfSome result (λ k. 1 ≤ k) }
 {
     match statement {
-        Stmt::Assign(assignment) => {
+        Stmt::Action(Action::Assign(assignment)) => {
             if assignment.variable == measure {
                 fall_by(measure, assignment.value.term())
             } else {
                 None
             }
         }
-        Stmt::SetRegister(_) | Stmt::Single(_) | Stmt::Put(_) => None,
-        Stmt::Scan(_) | Stmt::QStop { .. } | Stmt::QRepeat { .. } => None,
-        Stmt::CrateCall(_) | Stmt::LamCall(_) | Stmt::Call(_) => None,
-        Stmt::If { .. } | Stmt::IfElse { .. } | Stmt::Lock { .. } => None,
-        Stmt::For { .. } | Stmt::ForEach { .. } | Stmt::While { .. } => None,
+        _ => None,
     }
 }
 

@@ -1,6 +1,6 @@
 -- What a walk keeps of the rows, and the shape of the rows of a block.
 use Rattle.std.proofs.Common.{◌≡◌, List, [], ◌∷◌, ◌++◌, map, Option, Some, None, refl, sym, ap, ◌∙◌, append_assoc, append-nil, ℕ, suc, zero, ◌+◌, ◌-◌, length}
-use Rattle.std.specs.Prelude.{unwrap_or}
+use Rattle.std.specs.Prelude.{option_map, unwrap_or}
 use Rattle.camac_rules.specs.Capped.{capped}
 use Rattle.camac_rules.specs.Known.{Known, with_range}
 use Rattle.camac_rules.specs.Costs.{Verdict}
@@ -9,13 +9,17 @@ use Rattle.camac_rules.specs.Loops.{with_fixed}
 use Rattle.camac_check_rows.specs.declared.row.Row.{Row}
 use Rattle.camac_check_rows.specs.declared.inside.Weight.{Weight}
 use Rattle.camac_check_rows.specs.Weights.{inside_row, once, turning, first_arm, second_arm, in_64_bits}
-use Rattle.camac_check_rows.specs.Rows.{none_yet, with_rows, ways, for_turning, while_turning, taken, lock_inside, lock_head, block_verdict, statement_verdict, inside, statement_rows, block_rows}
+use Rattle.camac_check_rows.specs.Rows.{with_rows, ways, for_turning, while_turning, taken, lock_inside, lock_head, block_verdict, statement_verdict, inside, statement_rows, block_rows}
 use Rattle.camac_check_rows.specs.Turns.{merge, Turned, turned, turns_over, each_turned}
 use Rattle.camac_range.specs.Interval.{only}
 use Rattle.camac_lang.specs.Tree.{Statement, assign, set_register, single, address_scan, q_stop, q_repeat, put, crate_call, lam_call, choose, choose_else, for_, for_each, while_, locked, call, Block, done, next}
 use Rattle.camac_model.specs.Fine.{Bounds}
 
 -- What a walk keeps of the rows.
+
+-- where those of a block are put
+abbrev none_yet : Option (List Row) → Option (List Row)
+none_yet kept = option_map (λ before. []) kept
 
 pub no_more : (k : Option (List Row)) → with_rows k [] ≡ k
 no_more None = refl

@@ -1,4 +1,4 @@
-pub mod Trees
 pub mod Kept
 pub mod Merged
+pub mod Laid
 mod EachRows

@@ -16,15 +16,14 @@ use Rattle.camac_check_rows.specs.declared.row.Detail.TheVariants as detail
 use Rattle.camac_check_rows.specs.declared.inside.Weight.{Weight}
 use Rattle.camac_check_rows.specs.Statements.{kind_of, detail_of, first_row}
 use Rattle.camac_check_rows.specs.Weights.{once, first_arm, second_arm, inside_row}
-use Rattle.camac_check_rows.specs.Rows.{inside, block_verdict, statement_rows, block_rows}
+use Rattle.camac_check_rows.specs.Rows.{inside, block_verdict, simple_row, statement_rows, block_rows}
+use Rattle.camac_lang.specs.View.{action_of}
+use Rattle.camac_lang.specs.declared.tree.Action.{Action}
+use Rattle.camac_lang.specs.declared.tree.Action.TheVariants as act
 use Rattle.camac_lang.specs.Tree.{Condition, Statement, choose_else, for_each, Block, next, spot_of}
 use Rattle.camac_lang.specs.declared.spot.Spot.{Spot}
 
 -- Rows of turns, merged in place.
-
-pub merge_none : (limit : Bounds → Bounds) (rows : List Row) → merge limit rows [] ≡ rows
-merge_none limit [] = refl
-merge_none limit (r ∷ rows) = refl
 
 -- one more row
 pub merge_more : (limit : Bounds → Bounds) (rows turn : List Row) (i : ℕ) (x y : Row) → i < length rows → i < length turn → x ≡ get_or rows i x → y ≡ get_or turn i y
@@ -67,22 +66,42 @@ pub none_next : (c : Context) (around : Around) (w : Weight) (s : Statement) (re
 unfolding if_reached
 none_next c around w s rest = map_both (inside_row c.limit w) (statement_rows c around s None) (block_rows c around rest None)
 
+-- an action has one row
+pub action_rows : (c : Context) (around : Around) (a : Action) (k : Known) → statement_rows c around (action_of a) k ≡ simple_row c around (action_of a) k ∷ []
+action_rows c around (act.Assign s) k = refl
+action_rows c around (act.SetRegister s) k = refl
+action_rows c around (act.Single s) k = refl
+action_rows c around (act.Scan s) k = refl
+action_rows c around (act.QStop s) k = refl
+action_rows c around (act.QRepeat s limit) k = refl
+action_rows c around (act.Put s) k = refl
+action_rows c around (act.CrateCall s) k = refl
+action_rows c around (act.LamCall s) k = refl
+action_rows c around (act.Call s) k = refl
+
+-- an action that can't be reached, a part at a time
+pub none_action : (c : Context) (around : Around) (a : Action) (n : Bounds) (told : Detail) (own : Row) (r0 r1 : List Row)
+    → n ≡ no_costs → told ≡ detail_of c (action_of a) None → own ≡ first_row (spot_of (action_of a)) (kind_of (action_of a)) 0 n n told
+    → r0 ≡ [] → r1 ≡ r0 ++ (own ∷ []) → r1 ≡ statement_rows c around (action_of a) None
+unfolding if_reached
+none_action c around a n told own r0 r1 en et eo p0 p1 =
+    let s = action_of a in
+    p1
+    ∙ ap (λ r. r ++ (own ∷ [])) p0
+    ∙ ap (λ x. x ∷ []) (eo ∙ ap (λ m. first_row (spot_of s) (kind_of s) 0 m m told) en ∙ ap (λ d. first_row (spot_of s) (kind_of s) 0 no_costs no_costs d) et)
+    ∙ sym (action_rows c around a None)
+
 -- a choice that can't be reached, a part at a time
-pub none_choice : (c : Context) (around : Around) (s : Statement) (spot : Spot) (test : Condition) (a b first_block second_block : Block) (n : Bounds) (told : Detail)
+pub none_choice : (c : Context) (around : Around) (s : Statement) (spot : Spot) (test : Condition) (a b first_block second_block : Block) (n : Bounds)
     (first other : Row) (w1 w2 : Weight) (r0 r1 r2 r3 r4 : List Row)
-    → s ≡ choose_else spot test a b → first_block ≡ a → second_block ≡ b → n ≡ no_costs → told ≡ detail_of c s None
-    → first ≡ first_row (spot_of s) (kind_of s) 0 n n told → other ≡ first_row spot kind.Else 0 n no_costs detail.Nothing
+    → s ≡ choose_else spot test a b → first_block ≡ a → second_block ≡ b → n ≡ no_costs
+    → first ≡ first_row spot kind.If 0 no_costs no_costs detail.Nothing → other ≡ first_row spot kind.Else 0 n no_costs detail.Nothing
     → w1 ≡ first_arm n n → w2 ≡ second_arm n n
     → r0 ≡ [] → r1 ≡ r0 ++ (first ∷ []) → r2 ≡ r1 ++ inside c w1 (block_rows c around first_block None)
     → r3 ≡ r2 ++ (other ∷ []) → r4 ≡ r3 ++ inside c w2 (block_rows c around second_block None)
     → r4 ≡ statement_rows c around s None
 unfolding if_reached
-none_choice c around s spot test a b first_block second_block n told first other w1 w2 r0 r1 r2 r3 r4 is ea eb en et ef eo e1 e2 p0 p1 p2 p3 p4 =
-    let first_is : first ≡ first_row spot kind.If 0 no_costs no_costs detail.Nothing =
-    ef
-    ∙ ap (λ m. first_row (spot_of s) (kind_of s) 0 m m told) en
-    ∙ ap (λ d. first_row (spot_of s) (kind_of s) 0 no_costs no_costs d) et
-    ∙ ap (λ q. first_row (spot_of q) (kind_of q) 0 no_costs no_costs (detail_of c q None)) is in
+none_choice c around s spot test a b first_block second_block n first other w1 w2 r0 r1 r2 r3 r4 is ea eb en first_is eo e1 e2 p0 p1 p2 p3 p4 =
     let other_is : other ≡ first_row spot kind.Else 0 no_costs no_costs detail.Nothing =
     eo ∙ ap (λ m. first_row spot kind.Else 0 m no_costs detail.Nothing) en in
     let w1_is : w1 ≡ first_arm no_costs no_costs = e1 ∙ ap (λ m. first_arm m m) en in
@@ -102,18 +121,13 @@ none_choice c around s spot test a b first_block second_block n told first other
     ∙ sym (ap (λ q. statement_rows c around q None) is)
 
 -- an `each` that can't be reached, a part at a time
-pub none_each : (c : Context) (around : Around) (s : Statement) (spot : Spot) (x v last : ℕ) (body block : Block) (n : Bounds) (told : Detail) (own : Row) (w : Weight) (r0 r1 r2 : List Row)
-    → s ≡ for_each spot x v last body → block ≡ body → n ≡ no_costs → told ≡ detail_of c s None
-    → own ≡ first_row (spot_of s) (kind_of s) 0 n n told → w ≡ once
+pub none_each : (c : Context) (around : Around) (s : Statement) (spot : Spot) (x v last : ℕ) (body block : Block) (own : Row) (w : Weight) (r0 r1 r2 : List Row)
+    → s ≡ for_each spot x v last body → block ≡ body
+    → own ≡ first_row spot kind.For 0 no_costs no_costs detail.Nothing → w ≡ once
     → r0 ≡ [] → r1 ≡ r0 ++ (own ∷ []) → r2 ≡ r1 ++ inside c w (block_rows c (with_fixed x around) block None)
     → r2 ≡ statement_rows c around s None
 unfolding if_reached
-none_each c around s spot x v last body block n told own w r0 r1 r2 is eb en et eo ew p0 p1 p2 =
-    let own_is : own ≡ first_row spot kind.For 0 no_costs no_costs detail.Nothing =
-    eo
-    ∙ ap (λ m. first_row (spot_of s) (kind_of s) 0 m m told) en
-    ∙ ap (λ d. first_row (spot_of s) (kind_of s) 0 no_costs no_costs d) et
-    ∙ ap (λ q. first_row (spot_of q) (kind_of q) 0 no_costs no_costs (detail_of c q None)) is in
+none_each c around s spot x v last body block own w r0 r1 r2 is eb own_is ew p0 p1 p2 =
     p2
     ∙ ap (λ r. r ++ inside c w (block_rows c (with_fixed x around) block None)) (p1 ∙ ap (λ r. r ++ (own ∷ [])) p0)
     ∙ ap (λ b. own ∷ inside c w (block_rows c (with_fixed x around) b None)) eb

@@ -1,4 +1,5 @@
 pub mod Statements
 pub mod Weights
+pub mod Laid
 pub mod Turns
 pub mod Rows

@@ -167,7 +167,3 @@ abbrev mutual
 -- these after those that are kept, if rows are kept
 abbrev pub with_rows : Option (List Row) → List Row → Option (List Row)
 with_rows kept rows = option_map (λ before. before ++ rows) kept
-
--- where those of a block are put
-abbrev pub none_yet : Option (List Row) → Option (List Row)
-none_yet kept = option_map (λ before. []) kept

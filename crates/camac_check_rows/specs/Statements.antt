@@ -25,16 +25,6 @@ use Rattle.camac_lang.specs.declared.spot.Spot.{Spot}
 abbrev pub first_row : (spot : Spot) → Kind → (times : ℕ) → (each share : Bounds) → Detail → Row
 first_row spot word times each share told = record { spot = spot; depth = 1; kind = word; times = times; each = each; share = share; detail = told }
 
--- it holds no others
-abbrev pub is_simple : Statement → Bool
-is_simple (choose spot test a) = false
-is_simple (choose_else spot test a b) = false
-is_simple (for_ spot x e1 e2 keeps body) = false
-is_simple (for_each spot x v last body) = false
-is_simple (while_ spot test most m keeps body) = false
-is_simple (locked spot e body) = false
-is_simple s = true
-
 abbrev pub single_kind : WordSize → Kind
 single_kind size.Full = kind.Cfsa
 single_kind size.Short = kind.Cssa

@@ -2,6 +2,7 @@
 use Rattle.std.specs.Prelude.{ℕ, ◌+◌, ◌*◌, ◌-◌, ◌^◌, min, nat_eq, nat_lt, nat_le, if◌then◌else◌}
 use Rattle.camac_model.specs.Fine.{Bounds}
 use Rattle.camac_rules.specs.Costs.{costs, no_costs}
+use Rattle.camac_check_rows.specs.declared.inside.Level.{Level}
 use Rattle.camac_check_rows.specs.declared.inside.Weight.{Weight}
 use Rattle.camac_check_rows.specs.declared.row.Row.{Row}
 
@@ -35,14 +36,22 @@ in_64_bits n = min n (2 ^ 64 - 1)
 abbrev pub weighed : Weight → Bounds → Bounds
 weighed w share = costs (w.cycles * share.cycles) (w.words * share.words) (w.steps * share.steps)
 
--- a row of a block as one of its statement
-abbrev pub inside_row : (Bounds → Bounds) → Weight → Row → Row
-inside_row limit w r = record {
+-- so many blocks deeper, all of which are made so often
+abbrev pub level : (deeper : ℕ) → Weight → Level
+level deeper w = record { deeper = deeper; weight = w }
+
+-- a row at a level
+abbrev pub laid_row : (Bounds → Bounds) → Level → Row → Row
+laid_row limit l r = record {
   spot = r.spot;
-  depth = in_64_bits (1 + r.depth);
+  depth = in_64_bits (l.deeper + r.depth);
   kind = r.kind;
-  times = in_64_bits (w.times * r.times);
-  each = if nat_eq w.times 0 then no_costs else r.each;
-  share = limit (weighed w r.share);
+  times = in_64_bits (l.weight.times * r.times);
+  each = if nat_eq l.weight.times 0 then no_costs else r.each;
+  share = limit (weighed l.weight r.share);
   detail = r.detail;
 }
+
+-- a row of a block as one of its statement
+abbrev pub inside_row : (Bounds → Bounds) → Weight → Row → Row
+inside_row limit w r = laid_row limit (level 1 w) r

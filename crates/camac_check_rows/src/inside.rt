@@ -2,7 +2,7 @@
 
 ghost use Rattle.std.specs.Prelude.{◌≡◌, ◌++◌, OnOk, map};
 ghost use Rattle.camac_model.specs.Fine.{Bounds};
-ghost use Rattle.camac_check_rows.specs.Weights.{first_arm, in_64_bits, inside_row, once, second_arm, turning, weighed};
+ghost use Rattle.camac_check_rows.specs.Weights.{first_arm, inside_row, laid_row, level, once, second_arm, turning, weighed};
 ghost use Rattle.camac_rules.specs.Capped.{capped};
 
 use crate::row::Row;
@@ -66,32 +66,73 @@ pub fn second_arm(first: Costs, second: Costs) -> Weight
     }
 }
 
+/// How rows of a block count in the statement that it stands in, or in one around that: so many levels deeper, and how often.
+#[derive(Clone, Copy)]
+pub struct Level {
+    deeper: u64,
+    weight: Weight,
+}
+
+impl Level {
+    /// In the statement that the block stands in.
+    pub fn of(weight: Weight) -> Level
+        ensures { result ≡ level 1 weight }
+    {
+        Level { deeper: 1, weight }
+    }
+
+    /// Of a block in this one.
+    pub fn within(self, inner: Weight) -> Level
+        ensures { (row : Row) → laid_row capped result row ≡ laid_row capped self (inside_row capped inner row) }
+    {
+        let weight = Weight {
+            times: self.weight.times.saturating_mul(inner.times),
+            cycles: self.weight.cycles.saturating_mul(inner.cycles),
+            words: self.weight.words.saturating_mul(inner.words),
+            steps: self.weight.steps.saturating_mul(inner.steps),
+        };
+        Level {
+            deeper: self.deeper.saturating_add(1),
+            weight,
+        }
+    }
+
+    /// A row of the block.
+    #[inline(always)]
+    pub fn laid(self, row: &Row) -> Row
+        ensures { result ≡ laid_row capped self row.now }
+    {
+        Row {
+            spot: row.spot,
+            depth: self.deeper.saturating_add(row.depth),
+            kind: row.kind,
+            times: self.weight.times.saturating_mul(row.times),
+            each: if self.weight.times == 0 {
+                Costs::new(0, 0, 0)
+            } else {
+                row.each
+            },
+            share: weighed(self.weight, row.share),
+            detail: row.detail,
+        }
+    }
+}
+
 /// Puts the rows of a block after those of its statement.
 pub fn push_inside(rows: &mut Vec<Row>, inner: &[Row], weight: Weight) -> Result<(), AllocError>
     ensures { OnOk result (rows.new.items ≡ rows.old.items ++ map (inside_row capped weight) inner.now) }
 {
-    'inner: for row in inner {
-        rows.push(inside_row(row, weight))?;
-    }
-    Ok(())
+    push_laid(rows, inner, Level::of(weight))
 }
 
-fn inside_row(row: &Row, weight: Weight) -> Row
-    ensures { result ≡ inside_row capped weight row.now }
+/// Puts rows of a block at this level.
+pub fn push_laid(rows: &mut Vec<Row>, inner: &[Row], level: Level) -> Result<(), AllocError>
+    ensures { OnOk result (rows.new.items ≡ rows.old.items ++ map (laid_row capped level) inner.now) }
 {
-    Row {
-        spot: row.spot,
-        depth: row.depth.saturating_add(1),
-        kind: row.kind,
-        times: weight.times.saturating_mul(row.times),
-        each: if weight.times == 0 {
-            Costs::new(0, 0, 0)
-        } else {
-            row.each
-        },
-        share: weighed(weight, row.share),
-        detail: row.detail,
+    'inner: for row in inner {
+        rows.push(level.laid(row))?;
     }
+    Ok(())
 }
 
 fn weighed(weight: Weight, share: Costs) -> Costs

@@ -2,6 +2,7 @@
 // Below the walk, so that one walk judges a script and finds its rows.
 #![tactic(auto)]
 
+mod found;
 mod inside;
 mod row;
 mod rows;

@@ -1,40 +1,40 @@
 // Where a walk puts the rows of the statements: in a list, or nowhere.
 
-ghost use Rattle.std.specs.Prelude.{◌≡◌, ◌∷◌, [], OnOk, None, Some, is_some, map, option_map, unwrap_or};
+ghost use Rattle.std.specs.Prelude.{◌≡◌, ◌∷◌, [], IfOk, OnOk, None, Some, is_some, map, option_map, unwrap_or};
 ghost use Rattle.camac_lang.specs.Tree.{spot_of};
-ghost use Rattle.camac_lang.specs.View.{statement_of};
+ghost use Rattle.camac_lang.specs.View.{action_of, statement_of};
 ghost use Rattle.camac_rules.specs.Capped.{capped};
 ghost use Rattle.camac_rules.specs.Cycles.{Around as Surroundings};
 ghost use Rattle.camac_check_simple.specs.Gives.{by_code};
-ghost use Rattle.camac_check_rows.specs.Rows.{none_yet, statement_rows, with_rows};
+ghost use Rattle.camac_check_rows.specs.Rows.{statement_rows, with_rows};
 ghost use Rattle.camac_check_rows.specs.Statements.{first_row, kind_of};
 ghost use Rattle.camac_check_rows.specs.Turns.{merge};
 ghost use Rattle.camac_check_rows.specs.Weights.{inside_row};
 
-use crate::inside::{Weight, push_inside};
+use crate::found::Found;
+use crate::inside::Weight;
 use crate::row::{Detail, Row};
-use crate::statement::simple_row;
-use crate::turns::merge_rows;
+use crate::statement::action_row;
 use crate::unreached::unreached_rows;
 use camac_check_known::Costs;
 use camac_check_simple::Context;
-use camac_lang::Stmt;
+use camac_lang::{Action, Stmt};
 use std::alloc::{AllocError, Global};
 use std::marker::Model;
 
 /// The rows that a walk has found so far, in the order of the text, or none at all.
 #[derive(Drop)]
 pub struct Rows {
-    kept: Option<Vec<Row>>,
+    kept: Option<Found>,
 }
 
 impl Model for Rows {
-    ghost use Rattle.std.specs.Prelude.{List, Option, option_map};
+    ghost use Rattle.std.specs.Prelude.{List, Option};
     ghost use Rattle.camac_check_rows.specs.declared.row.Row.{Row};
 
     ghost Value = { Option (List Row) };
 
-    ghost view = { λ r. option_map (λ v. v.items) r.kept };
+    ghost view = { λ r. r.kept };
 }
 
 impl Rows {
@@ -50,13 +50,13 @@ impl Rows {
         ensures { result ≡ Some [] }
     {
         Rows {
-            kept: Some(Vec::new(alloc)),
+            kept: Some(Found::new(alloc)),
         }
     }
 
     /// For the rows of a block: keeps all if these are kept.
     pub fn inside(&self, alloc: Global) -> Rows
-        ensures { result ≡ none_yet self.now }
+        ensures { result ≡ option_map (λ before. []) self.now }
     {
         if self.are_kept() {
             Rows::new(alloc)
@@ -72,54 +72,52 @@ impl Rows {
         self.kept.is_some()
     }
 
-    /// The rows that were kept.
-    pub fn into_vec(self, alloc: Global) -> Vec<Row>
-        ensures { result.items ≡ unwrap_or self [] }
+    /// The rows that were kept. The error is want of memory.
+    pub fn into_vec(self, alloc: Global) -> Result<Vec<Row>, AllocError>
+        ensures { IfOk result (λ v. v.items ≡ unwrap_or self []) }
     {
         match self.kept {
-            Some(rows) => rows,
-            None => Vec::new(alloc),
+            Some(found) => found.into_rows(alloc),
+            None => Ok(Vec::new(alloc)),
         }
     }
 
-    /// Puts the row of a statement that is reached and holds no others: its share is all that it can cost.
-    pub fn put(&mut self, statement: &Stmt, each: Costs, detail: Detail) -> Result<(), AllocError>
-        ensures { OnOk result (self.new ≡ with_rows self.old (first_row (spot_of (statement_of statement.now)) (kind_of (statement_of statement.now)) 1 each each detail ∷ [])) }
+    /// Puts the row of an action that is reached: its share is all that it can cost.
+    pub fn put(&mut self, action: &Action, each: Costs, detail: Detail) -> Result<(), AllocError>
+        ensures { OnOk result (self.new ≡ with_rows self.old (first_row (spot_of (action_of action.now)) (kind_of (action_of action.now)) 1 each each detail ∷ [])) }
     {
         match &mut self.kept {
-            Some(rows) => Ok(rows.push(simple_row(statement, 1, each, detail))?),
+            Some(found) => found.push(action_row(action, 1, each, detail)),
             None => Ok(()),
         }
     }
 
     /// Puts the row of a statement, and then the rows of its block.
-    pub fn put_block(&mut self, row: Row, block: &Rows, weight: Weight) -> Result<(), AllocError>
-        ensures { OnOk result (self.new ≡ with_rows self.old (row ∷ map (inside_row capped weight) (unwrap_or block.now []))) }
+    #[inline(always)]
+    pub fn put_block(
+        &mut self,
+        alloc: Global,
+        row: Row,
+        block: Rows,
+        weight: Weight,
+    ) -> Result<(), AllocError>
+        ensures { OnOk result (self.new ≡ with_rows self.old (row ∷ map (inside_row capped weight) (unwrap_or block []))) }
     {
-        // The kit's borrow checker wants the type of the detail named here.
-        let detail: Detail = row.detail;
         match &mut self.kept {
-            Some(rows) => {
-                rows.push(Row { detail, ..row })?;
-                match &block.kept {
-                    Some(block) => push_inside(rows, block, weight),
-                    None => Ok(()),
-                }
-            }
+            Some(found) => match block.kept {
+                Some(block) => found.push_block(alloc, row, block, weight),
+                None => found.push(row),
+            },
             None => Ok(()),
         }
     }
 
     /// Merges the rows of one more turn of an `each` into these, row by row, if they are kept.
-    #[tactic(auto, using(crate::proofs::Merged::merge_none))]
-    pub fn merge(&mut self, turn: &Rows) -> Result<(), AllocError>
-        ensures { OnOk result (self.new ≡ option_map (λ rows. merge capped rows (unwrap_or turn.now [])) self.old) }
+    pub fn merge(&mut self, alloc: Global, turn: Rows) -> Result<(), AllocError>
+        ensures { OnOk result (self.new ≡ option_map (λ rows. merge capped rows (unwrap_or turn [])) self.old) }
     {
         match &mut self.kept {
-            Some(rows) => match &turn.kept {
-                Some(turn) => merge_rows(rows, turn),
-                None => Ok(()),
-            },
+            Some(found) => found.merge(alloc, turn.into_vec(alloc)?),
             None => Ok(()),
         }
     }
@@ -134,7 +132,7 @@ impl Rows {
         ensures { (around : Surroundings) → OnOk result (self.new ≡ with_rows self.old (statement_rows (by_code context.now) around (statement_of statement.now) None)) }
     {
         match &mut self.kept {
-            Some(rows) => Ok(rows.extend_from_slice(&unreached_rows(alloc, context, statement)?)?),
+            Some(found) => found.extend(&unreached_rows(alloc, context, statement)?),
             None => Ok(()),
         }
     }

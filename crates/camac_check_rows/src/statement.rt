@@ -2,7 +2,7 @@
 
 ghost use Rattle.std.specs.Prelude.{◌≡◌, ◌<◌, ◌+◌, ◌-◌, ◌^◌, IfOk, option_map};
 ghost use Rattle.camac_lang.specs.Tree.{spot_of};
-ghost use Rattle.camac_lang.specs.View.{expression_of, statement_of};
+ghost use Rattle.camac_lang.specs.View.{action_of, expression_of};
 ghost use Rattle.camac_range.specs.Interval.{only};
 ghost use Rattle.camac_check_simple.specs.Gives.{by_code};
 ghost use Rattle.camac_rules.specs.Costs.{costs, no_costs};
@@ -12,7 +12,7 @@ ghost use Rattle.camac_check_rows.specs.Statements.{at_region, between, crate_de
 use crate::row::{Detail, Kind, Row};
 use camac_check_known::{CheckFault, Costs, Facts, Region, range_of};
 use camac_check_simple::{Context, lam_region};
-use camac_lang::{CrateCall, Expr, LamCall, Spot, Stmt, WordSize};
+use camac_lang::{Action, CrateCall, Expr, LamCall, Spot, WordSize};
 use camac_range::Range;
 use std::alloc::AllocError;
 
@@ -31,12 +31,19 @@ fn own_row(spot: Spot, kind: Kind, times: u64, each: Costs, share: Costs, detail
     }
 }
 
-/// The row of a statement that holds no others: its share is all that it can cost.
-pub fn simple_row(statement: &Stmt, times: u64, each: Costs, detail: Detail) -> Row
-    ensures { result ≡ first_row (spot_of (statement_of statement.now)) (kind_of (statement_of statement.now)) times each each detail }
+/// The row of an action: its share is all that it can cost.
+pub fn action_row(action: &Action, times: u64, each: Costs, detail: Detail) -> Row
+    ensures { result ≡ first_row (spot_of (action_of action.now)) (kind_of (action_of action.now)) times each each detail }
 {
-    let spot = statement.spot();
-    own_row(spot, kind_of(statement), times, each, each, detail)
+    own_row(action.spot(), kind_of(action), times, each, each, detail)
+}
+
+/// The row of a statement at this spot that holds blocks and can't be reached: all of its numbers are 0.
+pub fn unreached_row(spot: Spot, kind: Kind) -> Row
+    ensures { result ≡ first_row spot kind 0 no_costs no_costs Detail.Nothing }
+{
+    let nothing = Costs::new(0, 0, 0);
+    own_row(spot, kind, 0, nothing, nothing, Detail::Nothing)
 }
 
 /// The row of an `if` at this spot: its share is a step.
@@ -83,24 +90,20 @@ pub fn lock_row(spot: Spot, each: Costs, waits: u8, crate_no: u32) -> Row
     own_row(spot, Kind::Lock, 1, each, share, taken)
 }
 
-fn kind_of(statement: &Stmt) -> Kind
-    ensures { result ≡ kind_of (statement_of statement.now) }
+fn kind_of(action: &Action) -> Kind
+    ensures { result ≡ kind_of (action_of action.now) }
 {
-    match statement {
-        Stmt::Assign(_) => Kind::Assign,
-        Stmt::SetRegister(_) => Kind::Cdreg,
-        Stmt::Single(single) => single_kind(single.size),
-        Stmt::Scan(_) => Kind::Cfmad,
-        Stmt::QStop { .. } => Kind::Cfubc,
-        Stmt::QRepeat { .. } => Kind::Cfubr,
-        Stmt::Put(_) => Kind::Put,
-        Stmt::CrateCall(action) => crate_kind(action.call),
-        Stmt::LamCall(action) => lam_kind(action.call),
-        Stmt::If { .. } | Stmt::IfElse { .. } => Kind::If,
-        Stmt::For { .. } | Stmt::ForEach { .. } => Kind::For,
-        Stmt::While { .. } => Kind::While,
-        Stmt::Lock { .. } => Kind::Lock,
-        Stmt::Call(_) => Kind::Call,
+    match action {
+        Action::Assign(_) => Kind::Assign,
+        Action::SetRegister(_) => Kind::Cdreg,
+        Action::Single(single) => single_kind(single.size),
+        Action::Scan(_) => Kind::Cfmad,
+        Action::QStop { .. } => Kind::Cfubc,
+        Action::QRepeat { .. } => Kind::Cfubr,
+        Action::Put(_) => Kind::Put,
+        Action::CrateCall(action) => crate_kind(action.call),
+        Action::LamCall(action) => lam_kind(action.call),
+        Action::Call(_) => Kind::Call,
     }
 }
 
@@ -137,28 +140,27 @@ fn lam_kind(call: LamCall) -> Kind
     }
 }
 
-/// What else there is to tell of a statement that holds no others: where it can't be reached, only what its text says. The error is want of
-/// memory.
+/// What else there is to tell of an action: where it can't be reached, only what its text says. The error is want of memory.
 pub fn detail_of(
     context: &Context,
-    statement: &Stmt,
+    action: &Action,
     known: Option<&Facts>,
 ) -> Result<Detail, AllocError>
-    ensures { IfOk result (λ d. d ≡ detail_of (by_code context.now) (statement_of statement.now) (option_map (λ k. k.now) known.entry)) }
+    ensures { IfOk result (λ d. d ≡ detail_of (by_code context.now) (action_of action.now) (option_map (λ k. k.now) known.entry)) }
 {
-    match statement {
-        Stmt::Single(single) => Ok(at_region(region_of(known, single.register))),
-        Stmt::QStop { transfer } | Stmt::QRepeat { transfer, .. } => {
+    match action {
+        Action::Single(single) => Ok(at_region(region_of(known, single.register))),
+        Action::QStop { transfer } | Action::QRepeat { transfer, .. } => {
             Ok(at_region(region_of(known, transfer.register)))
         }
-        Stmt::Scan(scan) => {
+        Action::Scan(scan) => {
             let from = region_of(known, scan.first);
             Ok(between(from, region_of(known, scan.last)))
         }
-        Stmt::CrateCall(action) => crate_detail(action.spot, &action.crate_no, known),
-        Stmt::LamCall(action) => Ok(at_region(lam_region(context, action.lam))),
-        Stmt::Call(call) => Ok(Detail::Procedure(call.procedure)),
-        _ => Ok(Detail::Nothing),
+        Action::CrateCall(action) => crate_detail(action.spot, &action.crate_no, known),
+        Action::LamCall(action) => Ok(at_region(lam_region(context, action.lam))),
+        Action::Call(call) => Ok(Detail::Procedure(call.procedure)),
+        Action::Assign(_) | Action::SetRegister(_) | Action::Put(_) => Ok(Detail::Nothing),
     }
 }
 

@@ -7,8 +7,8 @@ ghost use Rattle.camac_check_simple.specs.Gives.{by_code};
 ghost use Rattle.camac_check_rows.specs.Rows.{block_rows, inside, statement_rows};
 
 use crate::inside::{Weight, first_arm, once, push_inside, second_arm, turning};
-use crate::row::Row;
-use crate::statement::{detail_of, else_row, simple_row};
+use crate::row::{Kind, Row};
+use crate::statement::{action_row, detail_of, else_row, unreached_row};
 use camac_check_known::Costs;
 use camac_check_simple::Context;
 use camac_lang::Stmt;
@@ -25,11 +25,15 @@ pub fn unreached_rows(
     ensures { (around : Surroundings) → IfOk result (λ v. v.items ≡ statement_rows (by_code context.now) around (statement_of statement.now) None) }
 {
     let nothing = Costs::new(0, 0, 0);
-    let detail = detail_of(context, statement, None)?;
     let mut rows = Vec::new(alloc);
-    rows.push(simple_row(statement, 0, nothing, detail))?;
     match statement {
-        Stmt::If { then, .. } => {
+        Stmt::Action(action) => {
+            let detail = detail_of(context, action, None)?;
+            rows.push(action_row(action, 0, nothing, detail))?;
+            Ok(rows)
+        }
+        Stmt::If { spot, then, .. } => {
+            rows.push(unreached_row(*spot, Kind::If))?;
             push_unreached(alloc, context, &mut rows, then, once())?;
             Ok(rows)
         }
@@ -39,6 +43,7 @@ pub fn unreached_rows(
             otherwise,
             ..
         } => {
+            rows.push(unreached_row(*spot, Kind::If))?;
             let first = first_arm(nothing, nothing);
             push_unreached(alloc, context, &mut rows, then, first)?;
             rows.push(else_row(*spot, 0, nothing))?;
@@ -46,28 +51,26 @@ pub fn unreached_rows(
             push_unreached(alloc, context, &mut rows, otherwise, second)?;
             Ok(rows)
         }
-        Stmt::For { body, .. } | Stmt::While { body, .. } => {
+        Stmt::For { head, body } => {
+            rows.push(unreached_row(head.spot, Kind::For))?;
             push_unreached(alloc, context, &mut rows, body, turning(0))?;
             Ok(rows)
         }
-        Stmt::ForEach { body, .. } => {
+        Stmt::While { head, body } => {
+            rows.push(unreached_row(head.spot, Kind::While))?;
+            push_unreached(alloc, context, &mut rows, body, turning(0))?;
+            Ok(rows)
+        }
+        Stmt::ForEach { spot, body, .. } => {
+            rows.push(unreached_row(*spot, Kind::For))?;
             push_unreached(alloc, context, &mut rows, body, once())?;
             Ok(rows)
         }
-        Stmt::Lock { body, .. } => {
+        Stmt::Lock { spot, body, .. } => {
+            rows.push(unreached_row(*spot, Kind::Lock))?;
             push_unreached(alloc, context, &mut rows, body, once())?;
             Ok(rows)
         }
-        Stmt::Assign(_)
-        | Stmt::SetRegister(_)
-        | Stmt::Single(_)
-        | Stmt::Scan(_)
-        | Stmt::QStop { .. }
-        | Stmt::QRepeat { .. }
-        | Stmt::Put(_)
-        | Stmt::CrateCall(_)
-        | Stmt::LamCall(_)
-        | Stmt::Call(_) => Ok(rows),
     }
 }
 

@@ -1,7 +1,7 @@
 // A command that a service may make, by a statement of its text and the detail of that statement's row.
 
 ghost use Rattle.std.specs.Prelude.{◌≡◌};
-ghost use Rattle.camac_lang.specs.View.{statement_of};
+ghost use Rattle.camac_lang.specs.View.{action_of};
 ghost use Rattle.camac_esone.specs.Calls.{command_at, crate_address, crate_function};
 ghost use Rattle.camac_commands.specs.Commands.{as_list, called_at, made_alone, made_at, span, told_region};
 
@@ -10,7 +10,7 @@ use camac_check_known::Region;
 use camac_check_rows::Detail;
 use camac_esone::{crate_call, lam_function};
 use camac_func::DataMove;
-use camac_lang::{CrateCall, Spot, Stmt};
+use camac_lang::{Action, CrateCall, Spot};
 use camac_range::Range;
 use camac_word::{CrateNo, Function};
 
@@ -22,25 +22,25 @@ pub struct Command {
     pub region: Region,
 }
 
-/// The command of a statement that holds no others and calls no procedure, if it has one.
-pub fn made_alone(statement: &Stmt, detail: Detail) -> Option<Command>
-    ensures { as_list result ≡ made_alone (statement_of statement.now) detail }
+/// The command of an action that calls no procedure, if it has one.
+pub fn made_alone(action: &Action, detail: Detail) -> Option<Command>
+    ensures { as_list result ≡ made_alone (action_of action.now) detail }
 {
-    match statement {
-        Stmt::Single(single) => made_at(single.spot, single.function, told_region(detail)),
-        Stmt::Scan(scan) => made_at(scan.spot, scan.function, told_region(detail)),
-        Stmt::QStop { transfer } | Stmt::QRepeat { transfer, .. } => {
+    match action {
+        Action::Single(single) => made_at(single.spot, single.function, told_region(detail)),
+        Action::Scan(scan) => made_at(scan.spot, scan.function, told_region(detail)),
+        Action::QStop { transfer } | Action::QRepeat { transfer, .. } => {
             made_at(transfer.spot, transfer.function, told_region(detail))
         }
-        Stmt::CrateCall(action) => {
+        Action::CrateCall(action) => {
             let function = called(action.call).f;
             made_at(action.spot, function, called_at(action.call, detail))
         }
-        Stmt::LamCall(action) => {
+        Action::LamCall(action) => {
             let function = lam_function(action.call);
             made_at(action.spot, function, told_region(detail))
         }
-        _ => None,
+        Action::Assign(_) | Action::SetRegister(_) | Action::Put(_) | Action::Call(_) => None,
     }
 }
 

@@ -2,7 +2,7 @@
 use Rattle.std.proofs.Common.{◌≡◌, ℕ, List, Option, Some, None, sym, ap, subst, ◌∙◌, refl}
 use Rattle.std.specs.Prelude.{Result, Ok, Err}
 use Rattle.camac_branch.specs.Plan.{Layout}
-use Rattle.camac_checked.specs.Checked.{CheckedScript}
+use Rattle.camac_rules.specs.Checked.{CheckedScript}
 use Rattle.camac_explain.specs.Explanation.{refusal_of}
 use Rattle.camac_explain.specs.declared.finding.Finding.{Finding}
 use Rattle.camac_lines.specs.declared.refusal.Refusal.{Refusal}
@@ -68,7 +68,7 @@ module _ {T : Type 0} (WasRead : T → Type 0) (Says : T → Outcome → List �
 -- of look-at-mes
 pub response_of : (s : Settings) (c : CheckedScript) (ts : List Source) (outcome : Outcome) → IsNoService c.script s.every.items s.within.items None → AreTold c s.every.items ts
     → SaysKept (AreKept c.script s.within.items (unkept_in c ts) ts) outcome → IsResponse s c outcome (responses_text c.script s.within.items (unkept_in c ts) (twice_in c) ts)
-response_of s c ts outcome named told kept = record { named = named; sources = ts; told = told; text_is = refl; kept = kept }
+response_of s c ts outcome named told kept = record { named = named; sources = ts; sources_are = told; text_is = refl; kept = kept }
 
 -- the line of a refusal, where it could not be written
 pub refusal_responds : (s : Settings) (f : Finding) (why : Refusal) (o p : Option (List ℕ)) (r : Result Responded ToolFault) (e : ToolFault) → why ≡ refusal_of f → r ≡ Err e → Shows (refused why) o p (Err e)

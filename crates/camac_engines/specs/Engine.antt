@@ -34,12 +34,12 @@ IsWritten Says o p (Err _) = ⊥
 
 -- What an engine answers: what was read is told of, and nothing is written where a fault came before that.
 module _ {T : Type 0} (WasRead : T → Type 0) (Says : T → Outcome → List ℕ → Type 0) (IsTooLong : Type 0) (o p : Option (List ℕ)) where
-  abbrev pub Tells : Result Outcome ToolFault → Type 0
-  Tells r = (found : T) × WasRead found × IsWritten (Says found) o p r
+  abbrev pub TellsRead : Result Outcome ToolFault → Type 0
+  TellsRead r = (found : T) × WasRead found × IsWritten (Says found) o p r
 
   abbrev pub Answers : Result Outcome ToolFault → Type 0
-  Answers (Ok outcome) = Tells (Ok outcome)
-  Answers (Err fault.Write) = Tells (Err fault.Write)
+  Answers (Ok outcome) = TellsRead (Ok outcome)
+  Answers (Err fault.Write) = TellsRead (Err fault.Write)
   Answers (Err fault.TooLong) = IsTooLong × Keeps o p
   Answers (Err _) = Keeps o p
 

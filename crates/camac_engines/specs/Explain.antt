@@ -9,11 +9,12 @@ use Rattle.camac_branch.specs.Plan.{Layout}
 use Rattle.camac_plan.specs.declared.fault.PlanCase.{PlanCase}
 use Rattle.camac_plan.specs.declared.fault.PlanFault.TheVariants.{Broken}
 use Rattle.camac_plan.specs.Reading.{TellsCase}
-use Rattle.camac_explain.specs.Explanation.{IsPlanExplanation, explanation_of, text_explanation, IsRuleText}
+use Rattle.camac_explain.specs.Explanation.{IsPlanExplanation, explanation_of, text_explanation}
+use Rattle.camac_explain_rule.specs.Advice.{IsRuleText}
 use Rattle.camac_explain.specs.Sentence.{sentence_of}
 use Rattle.camac_explain.specs.declared.finding.Finding.{Finding}
 use Rattle.camac_explain.specs.declared.finding.Finding.TheVariants as finding
-use Rattle.camac_explain.specs.declared.rule.Rule.{Rule}
+use Rattle.camac_explain_rule.specs.declared.rule.Rule.{Rule}
 use Rattle.camac_explain_text.specs.Sentence.{Said, IsTextTold}
 use Rattle.camac_engines.specs.Accepted.{Accepted, accepted}
 use Rattle.camac_engines.specs.Headings.{headed, headings_report}

@@ -1,6 +1,5 @@
 -- The plan of a source.
 use Rattle.std.specs.Prelude.{◌≡◌, ℕ, ◌+◌, Bool, false, List, Option, Result, Ok, Err}
-use Rattle.camac_word.specs.Watched.{inner_of, has_failed}
 use Rattle.camac_branch.specs.Plan.{Layout}
 use Rattle.camac_plan.specs.declared.fault.PlanFault.TheVariants.{Broken}
 use Rattle.camac_plan.specs.declared.fault.PlanRule.{PlanRule}
@@ -29,12 +28,12 @@ plan_found text = in_text text (reading text)
 -- The source says this: the sample plan, or what all that its reader had left reads as. Of a reader, `left` tells the bytes that it has left.
 abbrev pub Says : {R : Type 0} → (left : R → Option (List ℕ)) → (old new : PlanSource R) → PlanFound → Type 0
 Says left Sample Sample says = says ≡ Ok sample
-Says left (Text old) (Text new) says = (text : List ℕ) × WasRead TEXT_LIMIT (left (inner_of old)) (left (inner_of new)) text × (says ≡ plan_found text)
+Says left (Text old) (Text new) says = (text : List ℕ) × WasRead TEXT_LIMIT (left old) (left new) text × (says ≡ plan_found text)
 Says left _ _ says = ⊥
 
 -- the source's text is longer than the limit
 abbrev pub IsPlanTooLong : {R : Type 0} → (left : R → Option (List ℕ)) → (old new : PlanSource R) → Type 0
-IsPlanTooLong left (Text old) (Text new) = ConsumesSome (left (inner_of old)) (left (inner_of new)) (TEXT_LIMIT + 1)
+IsPlanTooLong left (Text old) (Text new) = ConsumesSome (left old) (left new) (TEXT_LIMIT + 1)
 IsPlanTooLong left _ _ = ⊥
 
 -- the same without the case
@@ -63,6 +62,6 @@ JudgesPlan (Ok says) text = (found_by text says ≡ plan_found text) × HasCaseI
 JudgesPlan (Err fault.Memory) text = Unit {0}
 JudgesPlan (Err _) text = ⊥
 
-abbrev pub plan_failed : {R : Type 0} → PlanSource R → Bool
-plan_failed Sample = false
-plan_failed (Text text) = has_failed text
+abbrev pub plan_failed : {R : Type 0} → (failed : R → Bool) → PlanSource R → Bool
+plan_failed failed Sample = false
+plan_failed failed (Text text) = failed text

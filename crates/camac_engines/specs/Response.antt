@@ -1,7 +1,7 @@
 -- What `camac response` tells of a plan and a script, at the numbers that the words tell.
 use Rattle.std.specs.Prelude.{◌≡◌, ℕ, Bool, List, Option, Some, None, Result, Ok, Err}
 use Rattle.std.specs.Io.KnownBytes.{Keeps}
-use Rattle.camac_checked.specs.Checked.{CheckedScript}
+use Rattle.camac_rules.specs.Checked.{CheckedScript}
 use Rattle.camac_explain.specs.Explanation.{refusal_of}
 use Rattle.camac_response_times.specs.declared.setting.Misuse.{Misuse}
 use Rattle.camac_response_times.specs.declared.setting.Settings.{Settings}
@@ -41,7 +41,7 @@ SaysKept IsKept Refused = IsKept → ⊥
 pub record IsResponse (s : Settings) (c : CheckedScript) (outcome : Outcome) (text : List ℕ) : Type 0 where
   pub named : IsNoService c.script s.every.items s.within.items None
   pub sources : List Source
-  pub told : AreTold c s.every.items sources
+  pub sources_are : AreTold c s.every.items sources
   pub text_is : text ≡ responses_text c.script s.within.items (unkept_in c sources) (twice_in c) sources
   pub kept : SaysKept (AreKept c.script s.within.items (unkept_in c sources) sources) outcome
 

@@ -1,13 +1,12 @@
 -- Where the statement at a place of a text begins, by its tokens.
 use Rattle.std.specs.Prelude.{ℕ, ◌+◌, ◌-◌, ◌^◌, Bool, true, false, not, ◌&&◌, ◌||◌, List, [], ◌∷◌, length, min, nat_eq, nat_le, slice_get, Option, Some, None, unwrap_or, if◌then◌else◌}
 use Rattle.camac_lang.specs.declared.spot.Spot.{Spot}
-use Rattle.camac_tokens.specs.declared.token.Keyword.{Keyword}
 use Rattle.camac_tokens.specs.declared.token.Keyword.TheVariants as word
 use Rattle.camac_tokens.specs.declared.token.Sign.TheVariants.{LeftBrace, RightBrace, Equals}
 use Rattle.camac_tokens.specs.declared.token.Token.{Token}
 use Rattle.camac_tokens.specs.declared.token.TokenKind.{TokenKind}
 use Rattle.camac_tokens.specs.declared.token.TokenKind.TheVariants.{Name, Number, Keyword as Word, Sign}
-use Rattle.camac_text_cursor.specs.Choice.{begins_anywhere}
+use Rattle.camac_text_cursor.specs.Choice.{begins_statement}
 use Rattle.camac_engines.specs.declared.standing.Seen.{Seen}
 
 -- ---- tokens
@@ -31,14 +30,6 @@ is_else k = false
 abbrev pub is_for : TokenKind → Bool
 is_for (Word word.For) = true
 is_for k = false
-
-abbrev pub is_lock : Keyword → Bool
-is_lock word.Lock = true
-is_lock w = false
-
--- the words with which statements begin
-abbrev pub begins_statement : Keyword → Bool
-begins_statement w = begins_anywhere w || is_lock w
 
 -- a name before `=` begins an assignment, but not after `for`
 abbrev pub assigns : (is_counted : Bool) → (next : Option Token) → Bool

@@ -5,7 +5,7 @@ use Rattle.camac_branch.specs.Plan.{Layout}
 use Rattle.camac_tokens.specs.Fault.{Fault as TextFault}
 use Rattle.camac_tokens.specs.Rules.{rule_of}
 use Rattle.camac_text.specs.Parser.{script_of}
-use Rattle.camac_checked.specs.Checked.{CheckedScript}
+use Rattle.camac_rules.specs.Checked.{CheckedScript}
 use Rattle.camac_rules.specs.Capped.{capped}
 use Rattle.camac_check_costs.specs.Bodies.{costs_with}
 use Rattle.camac_check_costs.specs.Texts.{costs_text}

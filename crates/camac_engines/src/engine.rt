@@ -24,35 +24,36 @@ use crate::plan::{PlanRead, PlanRefusal, PlanSource, read_plan};
 use crate::reading::{EVENTS_LIMIT, read_whole};
 use crate::telling::tell_all;
 use crate::texts::{Texts, read_texts};
+use camac_answer::TextReader;
 use camac_branch::Plan;
-use camac_event::EventFile;
+use camac_event::{EventFile, TextWriter};
 use camac_lines::{
     Refusal, write_event_file, write_plan, write_plan_with_commands, write_refusal, write_verdict,
 };
 use camac_word::Watched;
 use std::alloc::Global;
-use std::io::{Read, Write};
+use std::io::Write;
 
 /// Answers what is asked of a plan and a script: that, or the line of the first refusal, is written to `out`. The plan is read and judged
 /// first, then the script. Nothing is written before a fault but one of the writer, which leaves a prefix of the text.
-pub fn answer<P: Read, S: Read, W: Write>(
+pub fn answer<P: TextReader, S: TextReader, W: Write>(
     alloc: Global,
     ask: Ask<'_>,
     plan: &mut PlanSource<P>,
-    script: &mut Watched<S>,
+    script: &mut S,
     out: &mut Watched<W>,
 ) -> Result<Outcome, ToolFault>
-    ensures answers { AnswersTexts ask.entry P.remaining plan.old plan.new (S.remaining (inner_of script.old)) (S.remaining (inner_of script.new)) (W.contents (inner_of out.old)) (W.contents (inner_of out.new)) result }
+    ensures answers { AnswersTexts ask.entry P.remaining plan.old plan.new (S.remaining script.old) (S.remaining script.new) (W.contents (inner_of out.old)) (W.contents (inner_of out.new)) result }
     ensures out_failed { has_failed out.new ≡ (has_failed out.old || is_write_fault result) }
-    ensures in_failed { (plan_failed plan.new || has_failed script.new)
-        ≡ ((plan_failed plan.old || has_failed script.old) || is_read_fault result) }
+    ensures in_failed { (plan_failed P.failed plan.new || S.failed script.new)
+        ≡ ((plan_failed P.failed plan.old || S.failed script.old) || is_read_fault result) }
 {
     let texts = read_texts(alloc, plan, script)?;
     tell(alloc, ask, &texts, out)
 }
 
 /// The same of a plan alone.
-pub fn answer_plan<P: Read, W: Write>(
+pub fn answer_plan<P: TextReader, W: Write>(
     alloc: Global,
     ask: PlanAsk,
     plan: &mut PlanSource<P>,
@@ -60,7 +61,7 @@ pub fn answer_plan<P: Read, W: Write>(
 ) -> Result<Outcome, ToolFault>
     ensures answers { AnswersPlan ask P.remaining plan.old plan.new (W.contents (inner_of out.old)) (W.contents (inner_of out.new)) result }
     ensures out_failed { has_failed out.new ≡ (has_failed out.old || is_write_fault result) }
-    ensures in_failed { plan_failed plan.new ≡ (plan_failed plan.old || is_read_fault result) }
+    ensures in_failed { plan_failed P.failed plan.new ≡ (plan_failed P.failed plan.old || is_read_fault result) }
 {
     let PlanRead { text, says } = read_plan(alloc, plan)?;
     match says {
@@ -70,66 +71,66 @@ pub fn answer_plan<P: Read, W: Write>(
 }
 
 /// Lists a plan.
-pub fn engine_plan<P: Read, W: Write>(
+pub fn engine_plan<P: TextReader, W: Write>(
     alloc: Global,
     plan: &mut PlanSource<P>,
     out: &mut Watched<W>,
 ) -> Result<Outcome, ToolFault>
     ensures answers { AnswersPlan plan_ask.Lines P.remaining plan.old plan.new (W.contents (inner_of out.old)) (W.contents (inner_of out.new)) result }
     ensures out_failed { has_failed out.new ≡ (has_failed out.old || is_write_fault result) }
-    ensures in_failed { plan_failed plan.new ≡ (plan_failed plan.old || is_read_fault result) }
+    ensures in_failed { plan_failed P.failed plan.new ≡ (plan_failed P.failed plan.old || is_read_fault result) }
 {
     answer_plan(alloc, PlanAsk::Lines, plan, out)
 }
 
 /// Checks a script against a plan.
-pub fn engine_check<P: Read, S: Read, W: Write>(
+pub fn engine_check<P: TextReader, S: TextReader, W: Write>(
     alloc: Global,
     plan: &mut PlanSource<P>,
-    script: &mut Watched<S>,
+    script: &mut S,
     out: &mut Watched<W>,
 ) -> Result<Outcome, ToolFault>
-    ensures answers { AnswersTexts ask.Check P.remaining plan.old plan.new (S.remaining (inner_of script.old)) (S.remaining (inner_of script.new)) (W.contents (inner_of out.old)) (W.contents (inner_of out.new)) result }
+    ensures answers { AnswersTexts ask.Check P.remaining plan.old plan.new (S.remaining script.old) (S.remaining script.new) (W.contents (inner_of out.old)) (W.contents (inner_of out.new)) result }
     ensures out_failed { has_failed out.new ≡ (has_failed out.old || is_write_fault result) }
-    ensures in_failed { (plan_failed plan.new || has_failed script.new)
-        ≡ ((plan_failed plan.old || has_failed script.old) || is_read_fault result) }
+    ensures in_failed { (plan_failed P.failed plan.new || S.failed script.new)
+        ≡ ((plan_failed P.failed plan.old || S.failed script.old) || is_read_fault result) }
 {
     answer(alloc, Ask::Check, plan, script, out)
 }
 
 /// Finds the least headings of a script for a plan.
-pub fn engine_bounds<P: Read, S: Read, W: Write>(
+pub fn engine_bounds<P: TextReader, S: TextReader, W: Write>(
     alloc: Global,
     plan: &mut PlanSource<P>,
-    script: &mut Watched<S>,
+    script: &mut S,
     out: &mut Watched<W>,
 ) -> Result<Outcome, ToolFault>
-    ensures answers { AnswersTexts ask.Bounds P.remaining plan.old plan.new (S.remaining (inner_of script.old)) (S.remaining (inner_of script.new)) (W.contents (inner_of out.old)) (W.contents (inner_of out.new)) result }
+    ensures answers { AnswersTexts ask.Bounds P.remaining plan.old plan.new (S.remaining script.old) (S.remaining script.new) (W.contents (inner_of out.old)) (W.contents (inner_of out.new)) result }
     ensures out_failed { has_failed out.new ≡ (has_failed out.old || is_write_fault result) }
-    ensures in_failed { (plan_failed plan.new || has_failed script.new)
-        ≡ ((plan_failed plan.old || has_failed script.old) || is_read_fault result) }
+    ensures in_failed { (plan_failed P.failed plan.new || S.failed script.new)
+        ≡ ((plan_failed P.failed plan.old || S.failed script.old) || is_read_fault result) }
 {
     answer(alloc, Ask::Bounds, plan, script, out)
 }
 
 /// Lists an event file of either version: its lines, or the line of its refusal, are written to `out`. Nothing is written before a fault
 /// but one of the writer, which leaves a prefix of the text. No memory is taken but the file's bytes.
-pub fn engine_events<R: Read, W: Write>(
+pub fn engine_events<R: TextReader, W: TextWriter>(
     alloc: Global,
-    input: &mut Watched<R>,
-    out: &mut Watched<W>,
+    input: &mut R,
+    out: &mut W,
 ) -> Result<Outcome, ToolFault>
-    ensures answers { AnswersEvents (R.remaining (inner_of input.old)) (R.remaining (inner_of input.new)) (W.contents (inner_of out.old)) (W.contents (inner_of out.new)) result }
-    ensures out_failed { has_failed out.new ≡ (has_failed out.old || is_write_fault result) }
-    ensures in_failed { has_failed input.new ≡ (has_failed input.old || is_read_fault result) }
+    ensures answers { AnswersEvents (R.remaining input.old) (R.remaining input.new) (W.contents out.old) (W.contents out.new) result }
+    ensures out_failed { W.failed out.new ≡ (W.failed out.old || is_write_fault result) }
+    ensures in_failed { R.failed input.new ≡ (R.failed input.old || is_read_fault result) }
 {
     let bytes = read_whole(alloc, input, EVENTS_LIMIT)?;
     list_events(&bytes, out)
 }
 
-fn list_events<W: Write>(bytes: &[u8], out: &mut Watched<W>) -> Result<Outcome, ToolFault>
-    ensures shows { Shows (report_events (file_at bytes.now)) (W.contents (inner_of out.old)) (W.contents (inner_of out.new)) result }
-    ensures failed { has_failed out.new ≡ (has_failed out.old || is_write_fault result) }
+fn list_events<W: TextWriter>(bytes: &[u8], out: &mut W) -> Result<Outcome, ToolFault>
+    ensures shows { Shows (report_events (file_at bytes.now)) (W.contents out.old) (W.contents out.new) result }
+    ensures failed { W.failed out.new ≡ (W.failed out.old || is_write_fault result) }
 {
     match EventFile::new(bytes) {
         Ok(file) => {
@@ -233,9 +234,9 @@ pub fn show<W: Write>(out: &mut Watched<W>, judged: &Judged) -> Result<Outcome, 
 }
 
 /// Writes the line of a refusal. After a write fault a prefix of it was written.
-pub fn refuse<W: Write>(out: &mut Watched<W>, refusal: Refusal) -> Result<Outcome, ToolFault>
-    ensures shows { Shows (refused refusal) (W.contents (inner_of out.old)) (W.contents (inner_of out.new)) result }
-    ensures failed { has_failed out.new ≡ (has_failed out.old || is_write_fault result) }
+pub fn refuse<W: TextWriter>(out: &mut W, refusal: Refusal) -> Result<Outcome, ToolFault>
+    ensures shows { Shows (refused refusal) (W.contents out.old) (W.contents out.new) result }
+    ensures failed { W.failed out.new ≡ (W.failed out.old || is_write_fault result) }
     ensures no_read { is_read_fault result ≡ false }
 {
     write_refusal(out, refusal)?;

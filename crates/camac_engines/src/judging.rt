@@ -9,20 +9,18 @@ ghost use Rattle.camac_engines.specs.Reading.{is_read_fault};
 ghost use Rattle.camac_engines.specs.Found.{ReadsJudged};
 ghost use Rattle.camac_engines.specs.Plan.{plan_failed};
 ghost use Rattle.camac_engines.specs.Report.{report, report_linked, report_accepted};
-ghost use Rattle.camac_word.specs.Watched.{inner_of, has_failed};
 
 use crate::fault::ToolFault;
 use crate::plan::PlanSource;
 use crate::texts::{Texts, read_texts};
+use camac_answer::TextReader;
 use camac_branch::Plan;
 use camac_check::{CheckFault, Checked, check};
 use camac_explain::Finding;
 use camac_lang::Script;
 use camac_names::{LinkFault, Linked, resolve};
 use camac_text::{TextFault, parse};
-use camac_word::Watched;
 use std::alloc::Global;
-use std::io::Read;
 
 /// What is found of a script.
 #[derive(Drop)]
@@ -32,13 +30,13 @@ pub enum Judged {
 }
 
 /// Reads and judges a plan, and then a script for it.
-pub fn read_judged<P: Read, S: Read>(
+pub fn read_judged<P: TextReader, S: TextReader>(
     alloc: Global,
     plan: &mut PlanSource<P>,
-    script: &mut Watched<S>,
+    script: &mut S,
 ) -> Result<Judged, ToolFault>
-    ensures reads { ReadsJudged P.remaining plan.old plan.new (S.remaining (inner_of script.old)) (S.remaining (inner_of script.new)) result }
-    ensures failed { (plan_failed plan.new || has_failed script.new) ≡ ((plan_failed plan.old || has_failed script.old) || is_read_fault result) }
+    ensures reads { ReadsJudged P.remaining plan.old plan.new (S.remaining script.old) (S.remaining script.new) result }
+    ensures failed { (plan_failed P.failed plan.new || S.failed script.new) ≡ ((plan_failed P.failed plan.old || S.failed script.old) || is_read_fault result) }
 {
     match read_texts(alloc, plan, script)? {
         Texts::Read(plan, script) => judge(alloc, &plan, &script),

@@ -7,11 +7,10 @@ ghost use Rattle.camac_engines.specs.Reading.{is_read_fault};
 use crate::fault::ToolFault;
 use crate::reading::{TEXT_LIMIT, read_whole};
 use crate::sample::sample_plan;
+use camac_answer::TextReader;
 use camac_branch::Plan;
 use camac_plan::{PlanCase, PlanFault, PlanRule, read};
-use camac_word::Watched;
 use std::alloc::Global;
-use std::io::Read;
 
 /// Where a plan comes from.
 #[derive(Drop)]
@@ -19,7 +18,7 @@ pub enum PlanSource<R> {
     /// The sample plan.
     Sample,
     /// The text that a reader has, as TOML.
-    Text(Watched<R>),
+    Text(R),
 }
 
 /// The first rule that a plan's text breaks, and its case.
@@ -37,9 +36,12 @@ pub struct PlanRead {
 }
 
 /// The plan of a source with its text, or the first rule that this breaks, with its case.
-pub fn read_plan<R: Read>(alloc: Global, source: &mut PlanSource<R>) -> Result<PlanRead, ToolFault>
+pub fn read_plan<R: TextReader>(
+    alloc: Global,
+    source: &mut PlanSource<R>,
+) -> Result<PlanRead, ToolFault>
     ensures reads { ReadsPlan R.remaining source.old source.new result }
-    ensures failed { plan_failed source.new ≡ (plan_failed source.old || is_read_fault result) }
+    ensures failed { plan_failed R.failed source.new ≡ (plan_failed R.failed source.old || is_read_fault result) }
 {
     match source {
         PlanSource::Sample => Ok(PlanRead {

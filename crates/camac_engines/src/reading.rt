@@ -2,13 +2,11 @@
 
 ghost use Rattle.std.specs.Prelude.{◌≡◌, ◌≤◌, ◌<◌, ◌+◌, ◌^◌, ◌||◌, ◌++◌, IfOk, IsErrOf, OnOk};
 ghost use Rattle.std.specs.Io.KnownBytes.{Consumes, IsAtEnd};
-ghost use Rattle.camac_word.specs.Watched.{inner_of, has_failed};
 ghost use Rattle.camac_engines.specs.Reading.{Reads, is_read_fault};
 
 use crate::fault::ToolFault;
-use camac_word::Watched;
+use camac_answer::TextReader;
 use std::alloc::{AllocError, Global};
-use std::io::Read;
 
 /// The greatest length of a plan and of a script, in bytes.
 pub const TEXT_LIMIT: usize = 1_048_576;
@@ -24,21 +22,21 @@ const PIECE: usize = 2_048;
 
 /// All that the reader has left, where that is at most `limit` bytes. No more than one byte past
 /// the limit is taken.
-pub fn read_whole<R: Read>(
+pub fn read_whole<R: TextReader>(
     alloc: Global,
-    reader: &mut Watched<R>,
+    reader: &mut R,
     limit: usize,
 ) -> Result<Vec<u8>, ToolFault>
     requires { limit < 2 ^ 32 }
-    ensures bytes { Reads (R.remaining (inner_of reader.old)) (R.remaining (inner_of reader.new)) limit result }
-    ensures failed { has_failed reader.new ≡ (has_failed reader.old || is_read_fault result) }
+    ensures bytes { Reads (R.remaining reader.old) (R.remaining reader.new) limit result }
+    ensures failed { R.failed reader.new ≡ (R.failed reader.old || is_read_fault result) }
 {
     let mut bytes = Vec::new(alloc);
     let mut chunk = [0; CHUNK];
     while bytes.len() <= limit {
         let room = CHUNK.min(limit + 1 - bytes.len());
         let part = &mut chunk[..room];
-        let Ok(taken) = reader.read(part) else {
+        let Ok(taken) = reader.read_piece(part) else {
             return Err(ToolFault::Read);
         };
         if taken == 0 {

@@ -14,6 +14,7 @@ use crate::fault::ToolFault;
 use crate::judging::{Judged, read_judged};
 use crate::outcome::Outcome;
 use crate::plan::PlanSource;
+use camac_answer::TextReader;
 use camac_check::Checked;
 use camac_response::{
     Misuse, Responses, Settings, Unkept, are_kept, no_service, sources_of, twice_of, unkept_of,
@@ -21,7 +22,7 @@ use camac_response::{
 };
 use camac_word::Watched;
 use std::alloc::Global;
-use std::io::{Read, Write};
+use std::io::Write;
 
 /// What became of the words and of the inputs.
 #[derive(Clone, Copy, Debug)]
@@ -36,17 +37,17 @@ pub enum Responded<'a> {
 /// Finds how long look-at-mes wait for their services, at the settings of the words after `--every` and `--within`: for each service a line, in
 /// the order of their bits, and for each thing that the script does not do, or the line of the first refusal, are written to `out`. The plan is read first, then the script. Nothing is
 /// written before a fault but one of the writer, which leaves a prefix of the text.
-pub fn engine_response<'a, P: Read, S: Read, W: Write>(
+pub fn engine_response<'a, P: TextReader, S: TextReader, W: Write>(
     alloc: Global,
     settings: &Settings<'a>,
     plan: &mut PlanSource<P>,
-    script: &mut Watched<S>,
+    script: &mut S,
     out: &mut Watched<W>,
 ) -> Result<Responded<'a>, ToolFault>
-    ensures responds { Responds settings.now P.remaining plan.old plan.new (S.remaining (inner_of script.old)) (S.remaining (inner_of script.new)) (W.contents (inner_of out.old)) (W.contents (inner_of out.new)) result }
+    ensures responds { Responds settings.now P.remaining plan.old plan.new (S.remaining script.old) (S.remaining script.new) (W.contents (inner_of out.old)) (W.contents (inner_of out.new)) result }
     ensures out_failed { has_failed out.new ≡ (has_failed out.old || is_write_fault result) }
-    ensures in_failed { (plan_failed plan.new || has_failed script.new)
-        ≡ ((plan_failed plan.old || has_failed script.old) || is_read_fault result) }
+    ensures in_failed { (plan_failed P.failed plan.new || S.failed script.new)
+        ≡ ((plan_failed P.failed plan.old || S.failed script.old) || is_read_fault result) }
 {
     let judged = read_judged(alloc, plan, script)?;
     respond(alloc, settings, &judged, out)

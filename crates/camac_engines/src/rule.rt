@@ -7,7 +7,7 @@ ghost use Rattle.camac_word.specs.Watched.{inner_of, has_failed};
 
 use crate::fault::ToolFault;
 use crate::outcome::Outcome;
-use camac_explain::{Rule, explain_rule};
+use camac_explain_rule::{Rule, explain_rule};
 use camac_word::Watched;
 use std::alloc::Global;
 use std::io::Write;

@@ -1,10 +1,10 @@
 // Where the statement at a place of a text begins.
 
 ghost use Rattle.std.specs.Prelude.{◌≡◌, option_map};
-ghost use Rattle.camac_engines.specs.Standing.{at_start, begins, begins_statement, bytes_from, chosen, from_line, is_else, is_equals, is_for, is_left_brace, is_lock, is_right_brace, standing_at, walked};
+ghost use Rattle.camac_engines.specs.Standing.{at_start, begins, bytes_from, chosen, from_line, is_else, is_equals, is_for, is_left_brace, is_right_brace, standing_at, walked};
 
 use camac_lang::Spot;
-use camac_text::Choice;
+use camac_text::begins_statement;
 use camac_tokens::{Keyword, Sign, Token, TokenKind};
 
 // What is known of a token: how many blocks are open, where the statement begins that it is one of, and whether it is a `for`, whose `=` begins none.
@@ -147,21 +147,6 @@ fn begins(is_counted: bool, token: &Token, next: Option<&Token>) -> bool
             None => false,
         },
         TokenKind::Number(_) | TokenKind::Sign(_) => false,
-    }
-}
-
-fn begins_statement(keyword: Keyword) -> bool
-    ensures { result ≡ begins_statement keyword }
-{
-    Choice::Statement.has_word(keyword) || is_lock(keyword)
-}
-
-fn is_lock(keyword: Keyword) -> bool
-    ensures { result ≡ is_lock keyword }
-{
-    match keyword {
-        Keyword::Lock => true,
-        _ => false,
     }
 }
 

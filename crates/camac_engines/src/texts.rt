@@ -4,15 +4,13 @@ ghost use Rattle.std.specs.Prelude.{◌≡◌, ◌||◌};
 ghost use Rattle.camac_engines.specs.Found.{ReadsTexts};
 ghost use Rattle.camac_engines.specs.Plan.{plan_failed};
 ghost use Rattle.camac_engines.specs.Reading.{is_read_fault};
-ghost use Rattle.camac_word.specs.Watched.{inner_of, has_failed};
 
 use crate::fault::ToolFault;
 use crate::plan::{PlanRead, PlanRefusal, PlanSource, read_plan};
 use crate::reading::{TEXT_LIMIT, read_whole};
+use camac_answer::TextReader;
 use camac_branch::Plan;
-use camac_word::Watched;
 use std::alloc::Global;
-use std::io::Read;
 
 /// A plan and the text of a script; or the text of a plan that is refused, where no script is read.
 #[derive(Drop)]
@@ -22,13 +20,13 @@ pub enum Texts {
 }
 
 /// Reads a plan, and then the text of a script.
-pub fn read_texts<P: Read, S: Read>(
+pub fn read_texts<P: TextReader, S: TextReader>(
     alloc: Global,
     plan: &mut PlanSource<P>,
-    script: &mut Watched<S>,
+    script: &mut S,
 ) -> Result<Texts, ToolFault>
-    ensures reads { ReadsTexts P.remaining plan.old plan.new (S.remaining (inner_of script.old)) (S.remaining (inner_of script.new)) result }
-    ensures failed { (plan_failed plan.new || has_failed script.new) ≡ ((plan_failed plan.old || has_failed script.old) || is_read_fault result) }
+    ensures reads { ReadsTexts P.remaining plan.old plan.new (S.remaining script.old) (S.remaining script.new) result }
+    ensures failed { (plan_failed P.failed plan.new || S.failed script.new) ≡ ((plan_failed P.failed plan.old || S.failed script.old) || is_read_fault result) }
 {
     let PlanRead { text, says } = read_plan(alloc, plan)?;
     match says {

@@ -1,4 +1,3 @@
-pub mod Advice
 pub mod Source
 pub mod Explanation
 pub mod Sentence

@@ -1,16 +1,14 @@
 // The lines of an explanation.
 
 ghost use Rattle.std.specs.Prelude.{◌≡◌, ◌++◌, [], Some, IfOk, OnOk, option_map, string_bytes};
-ghost use Rattle.camac_explain.specs.Advice.{told};
-ghost use Rattle.camac_explain.specs.Explanation.{IsPlanExplanation, advice_text, closing, explanation_of, line_of, sentence_line, text_explanation, told_of};
+ghost use Rattle.camac_explain_rule.specs.Advice.{line_of, why_and_fix};
+ghost use Rattle.camac_explain.specs.Explanation.{IsPlanExplanation, advice_text, closing, explanation_of, sentence_line, text_explanation, told_of};
 ghost use Rattle.camac_explain.specs.Source.{source_of};
 
-use crate::advice::{Advice, check_advice, rule_advice};
 use crate::finding::Finding;
-use crate::rule::Rule;
 use crate::source::{push_shown, push_source};
-use crate::texts::MORE;
 use camac_explain_plan::{plan_hint, plan_sentence};
+use camac_explain_rule::{Advice, MORE, Rule, check_advice, push_line, rule_advice};
 use camac_lines::Refusal;
 use camac_plan::{PlanCase, PlanRule};
 use std::alloc::{AllocError, Global};
@@ -114,7 +112,7 @@ fn push_closing(
     advice: Advice,
     code: &str,
 ) -> Result<(), AllocError>
-    ensures { OnOk result (lines.new.items ≡ lines.old.items ++ closing (option_map (λ h. h.now) hint.entry) (told advice.why.now advice.fix.now) code.now) }
+    ensures { OnOk result (lines.new.items ≡ lines.old.items ++ closing (option_map (λ h. h.now) hint.entry) (why_and_fix advice.why.now advice.fix.now) code.now) }
 {
     match hint {
         Some(hint) => push_hint(lines, hint.as_bytes(), code),
@@ -123,7 +121,7 @@ fn push_closing(
 }
 
 fn push_hint(lines: &mut Vec<u8>, hint: &[u8], code: &str) -> Result<(), AllocError>
-    ensures { OnOk result (lines.new.items ≡ lines.old.items ++ closing (Some hint.now) (told [] []) code.now) }
+    ensures { OnOk result (lines.new.items ≡ lines.old.items ++ closing (Some hint.now) (why_and_fix [] []) code.now) }
 {
     lines.extend_from_slice(b"Fix: ")?;
     push_told(lines, hint)?;
@@ -131,19 +129,9 @@ fn push_hint(lines: &mut Vec<u8>, hint: &[u8], code: &str) -> Result<(), AllocEr
 }
 
 fn push_advice(lines: &mut Vec<u8>, advice: Advice, code: &str) -> Result<(), AllocError>
-    ensures { OnOk result (lines.new.items ≡ lines.old.items ++ advice_text (told advice.why.now advice.fix.now) code.now) }
+    ensures { OnOk result (lines.new.items ≡ lines.old.items ++ advice_text (why_and_fix advice.why.now advice.fix.now) code.now) }
 {
     push_line(lines, "Why: ", advice.why)?;
     push_line(lines, "Fix: ", advice.fix)?;
     push_line(lines, MORE, code)
-}
-
-/// Puts a line at the end, which begins with a label.
-pub fn push_line(lines: &mut Vec<u8>, label: &str, text: &str) -> Result<(), AllocError>
-    ensures { OnOk result (lines.new.items ≡ lines.old.items ++ line_of label.now text.now) }
-{
-    lines.extend_from_slice(label.as_bytes())?;
-    lines.extend_from_slice(text.as_bytes())?;
-    lines.push(b'\n')?;
-    Ok(())
 }

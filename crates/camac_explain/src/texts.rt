@@ -1,8 +1,5 @@
 // The texts of explanations. A `%` is a gap.
 
-// Before a code, at the end of an explanation.
-pub const MORE: &str = "More: docs/REFUSALS.md, ";
-
 // Of a line that is shown.
 pub const END: &str = "(end of the script)";
 
@@ -77,38 +74,3 @@ pub const WIDE_WORD: &str = "The word may be %, and 24 bits hold at most 1677721
 pub const COUNTED: &str = "A `for` around this line counts the variable %.";
 
 pub const ARGUMENT: &str = "Argument % may be %, and % takes % to %.";
-
-// Of warnings.
-pub const NEVER_REACHED: &str = "never reached";
-
-pub const SCAN_WITHOUT_CYCLE: &str = "a scan without a cycle";
-
-pub const NO_NUMBER: &str = "no number for look-at-mes";
-
-pub const KEEP_NOT_NEEDED: &str = "a kept bound that is not needed";
-
-pub const NO_SERVICE: &str = "no service";
-
-pub const LONGER_FIRST: &str = "a longer service goes first";
-
-pub const DEAR_LOOP: &str = "a loop that costs less turn by turn";
-
-pub const KEEP_TOO_WIDE: &str = "a kept bound that is wider than it has to be";
-
-pub const WORD_NOT_USED: &str = "a word that is read and never used";
-
-pub const ONE_NUMBER: &str = "a word that is always one number";
-
-pub const USED_BEFORE_SET: &str = "used before it is set";
-
-pub const ONE_ADDRESS_TWICE: &str = "two registers of one address";
-
-pub const FLAG_BEFORE_CYCLE: &str = "a flag before any cycle";
-
-pub const NAME_NOT_USED: &str = "a name that is never used";
-
-pub const LEADING_ZERO: &str = "a 0 before a number";
-
-pub const ALWAYS_TRUE_OR_FALSE: &str = "a condition that is always true or always false";
-
-pub const GUARD_LEAVES_OUT: &str = "a guard that leaves something out";

@@ -12,14 +12,14 @@ use Rattle.camac_tokens.specs.declared.token.Sign.TheVariants as sign
 use Rattle.camac_tokens.specs.declared.token.TokenKind.{TokenKind}
 use Rattle.camac_tokens.specs.declared.token.TokenKind.TheVariants as kind
 use Rattle.camac_tokens.specs.declared.words.TheConstants.{KEYWORDS}
-use Rattle.camac_text_cursor.specs.Choice.{begins_declaration}
+use Rattle.camac_text_cursor.specs.Choice.{begins_declaration, begins_statement}
 use Rattle.camac_text_cursor.specs.Readers.{each_word, is_keyword, is_name, is_number}
 use Rattle.camac_text_cursor.specs.declared.choice.Choice.TheVariants as choice
 use Rattle.camac_explain_text_words.specs.Absent.{absent_sign}
 use Rattle.camac_explain_text_words.specs.Forms.{form_of}
 use Rattle.camac_explain_text_words.specs.Spelled.{is_hexadecimal, is_word, sign_text, word_text}
 use Rattle.camac_explain_text_words.specs.declared.forms.TheConstants.{ASSIGNMENT}
-use Rattle.camac_explain_text_place.specs.Before.{Standing, begins_statement, called_in, declared, first_of, is_in_brackets, is_kind, near, open_line, wants_new_name, word_of}
+use Rattle.camac_explain_text_place.specs.Before.{Standing, called_in, declared, first_of, is_in_brackets, is_kind, near, open_line, wants_new_name, word_of}
 use Rattle.camac_explain_text.specs.Hint.{absent_text, no_arrow_text, takes_text}
 use Rattle.camac_explain_text.specs.Mistake.{ends_in_marked_number, first_case, is_either, told_of_kind, usual_mistake}
 use Rattle.camac_explain_text.specs.declared.texts.TheConstants.{ADDRESS, BRACKETS, CALLED, CYCLES_SET, DIGITS, FORM, INSIDE, MARKED, MEANT, MEANT_BEFORE, MEANT_NAME, NO_RESULT, NO_STATEMENT, OF_LANGUAGE, OPEN, TESTED}

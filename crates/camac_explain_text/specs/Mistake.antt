@@ -9,10 +9,10 @@ use Rattle.camac_tokens.specs.declared.token.Keyword.TheVariants as word
 use Rattle.camac_tokens.specs.declared.token.Sign.TheVariants as sign
 use Rattle.camac_tokens.specs.declared.token.TokenKind.{TokenKind}
 use Rattle.camac_tokens.specs.declared.token.TokenKind.TheVariants as kind
-use Rattle.camac_text_cursor.specs.Choice.{compares, is_sign_that, is_word_that}
+use Rattle.camac_text_cursor.specs.Choice.{begins_statement, compares, is_sign_that, is_word_that}
 use Rattle.camac_text_cursor.specs.Readers.{is_each, is_keyword, is_name, is_number, is_sign}
 use Rattle.camac_text_cursor.specs.declared.choice.Choice.TheVariants as choice
-use Rattle.camac_explain_text_place.specs.Before.{begins_statement, first_of, in_body, is_in_brackets, is_kind, word_of}
+use Rattle.camac_explain_text_place.specs.Before.{first_of, in_body, is_in_brackets, is_kind, word_of}
 use Rattle.camac_explain_text_place.specs.Expected.{is_name as is_name_wanted, is_operator}
 use Rattle.camac_explain_text_place.specs.Place.{Place, adjoins_word, begins_statement_at, expects, is_assigned, last, needed, kind_at}
 use Rattle.camac_explain_text.specs.declared.texts.TheConstants.{AFTER_ELSE, AFTER_INTO, AFTER_NOT, ANSWER, BEFORE_EACH, BEGINS_AS_0, COMPARES, DIVISOR, FLAG_ALONE, JOINED, NAMES_APART, NAME_LAM, NONE_BELOW_0, NO_BRACKETS, NO_CALL, NO_DASH, NO_NUMBER, ONE_READ, ONE_VALUE, OUTSIDE, REPEATED, SET_REGISTER, TABLE_READ, TWO_SIDES, WORDS_APART}

@@ -8,7 +8,7 @@ use Rattle.camac_tokens.specs.declared.fault.Found.TheVariants as found
 use Rattle.camac_tokens.specs.declared.fault.NameKind.{NameKind}
 use Rattle.camac_tokens.specs.declared.fault.NameKind.TheVariants as named
 use Rattle.camac_tokens.specs.declared.fault.TextCase.{TextCase}
-use Rattle.camac_tokens.specs.declared.fault.TextCase.TheVariants as told
+use Rattle.camac_tokens.specs.declared.fault.TextCase.TheVariants as text_case
 use Rattle.camac_tokens.specs.declared.fault.TextFault.TheVariants as text_fault
 use Rattle.camac_tokens.specs.declared.token.TokenKind.{TokenKind}
 use Rattle.camac_tokens.specs.declared.token.TokenKind.TheVariants as kind
@@ -130,19 +130,19 @@ undeclared p wanted found.Hidden = of_word HIDDEN.now p.bytes
 
 -- what is told in this case at a place
 unfoldable pub case_said : Place → TextCase → Said
-case_said p told.Byte = byte_said p
-case_said p told.Unexpected = unexpected p
-case_said p told.ZeroDivisor = found_said p.bytes (Some DIVISOR.now)
-case_said p told.LockInProcedure = alone NO_LOCK.now
-case_said p (told.ArgumentCount wanted) = arguments_said p.bytes (called_in p.before.phrase) wanted
-case_said p (told.Number most) = with_hint (number_text p.bytes most) None
-case_said p (told.Taken by) = taken p by
-case_said p told.KeptTwice = of_word KEPT_TWICE.now p.bytes
-case_said p told.CounterKept = of_word COUNTER_KEPT.now p.bytes
-case_said p told.MeasureKept = of_word MEASURE_KEPT.now p.bytes
-case_said p (told.Undeclared wanted what) = undeclared p wanted what
-case_said p (told.Limit limit) = with_hint (limit_text p.bytes limit) None
-case_said p told.Branch = of_word BRANCH.now p.bytes
+case_said p text_case.Byte = byte_said p
+case_said p text_case.Unexpected = unexpected p
+case_said p text_case.ZeroDivisor = found_said p.bytes (Some DIVISOR.now)
+case_said p text_case.LockInProcedure = alone NO_LOCK.now
+case_said p (text_case.ArgumentCount wanted) = arguments_said p.bytes (called_in p.before.phrase) wanted
+case_said p (text_case.Number most) = with_hint (number_text p.bytes most) None
+case_said p (text_case.Taken by) = taken p by
+case_said p text_case.KeptTwice = of_word KEPT_TWICE.now p.bytes
+case_said p text_case.CounterKept = of_word COUNTER_KEPT.now p.bytes
+case_said p text_case.MeasureKept = of_word MEASURE_KEPT.now p.bytes
+case_said p (text_case.Undeclared wanted what) = undeclared p wanted what
+case_said p (text_case.Limit limit) = with_hint (limit_text p.bytes limit) None
+case_said p text_case.Branch = of_word BRANCH.now p.bytes
 
 abbrev pub is_buffer : TokenKind → Bool
 is_buffer (kind.Name name) = starts_with nat_eq name (codes "buffer")

@@ -11,8 +11,8 @@ use crate::texts::{
     NONE_BELOW_0, ONE_READ, ONE_VALUE, OUTSIDE, REPEATED, SET_REGISTER, TABLE_READ, TWO_SIDES,
     WORDS_APART,
 };
-use camac_explain_text_place::{Found, begins_statement, is_name, is_operator};
-use camac_text::{Choice, NameKind, TokenKind};
+use camac_explain_text_place::{Found, is_name, is_operator};
+use camac_text::{Choice, NameKind, TokenKind, begins_statement};
 use camac_tokens::{Keyword, Sign, are_same};
 
 /// What is to be known of a name of one kind in the place of another.

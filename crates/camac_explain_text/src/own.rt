@@ -10,10 +10,10 @@ ghost use Rattle.camac_sentence.specs.Filled.{with};
 
 use crate::hint::{Hint, absent_hint, word_before};
 use crate::texts::{CYCLES_SET, INSIDE, OF_LANGUAGE};
-use camac_explain_text_place::{Found, begins_statement};
+use camac_explain_text_place::Found;
 use camac_explain_text_words::word_text;
 use camac_sentence::Part;
-use camac_text::{Choice, TokenKind};
+use camac_text::{Choice, TokenKind, begins_statement};
 use camac_tokens::Keyword;
 
 /// A word or a sign of another language, a declaration in a body, a word of the language where a name has to stand.

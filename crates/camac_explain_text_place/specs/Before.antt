@@ -14,15 +14,10 @@ use Rattle.camac_tokens.specs.declared.token.Sign.TheVariants as sign
 use Rattle.camac_tokens.specs.declared.token.Token.{Token}
 use Rattle.camac_tokens.specs.declared.token.TokenKind.{TokenKind}
 use Rattle.camac_tokens.specs.declared.token.TokenKind.TheVariants as kind
-use Rattle.camac_text_cursor.specs.Choice.{begins_anywhere, begins_declaration}
+use Rattle.camac_text_cursor.specs.Choice.{begins_declaration, begins_statement}
 use Rattle.camac_text_cursor.specs.Readers.{is_keyword, is_sign as is_sign_at}
-use Rattle.camac_explain_text_words.specs.Spelled.{is_word}
 use Rattle.camac_explain_text_place.specs.declared.before.Before as declared_before
 use Rattle.camac_explain_text_place.specs.declared.before.Declared.{Declared}
-
--- `lock` begins a statement, too, and a procedure refuses it by a case of its own
-abbrev pub begins_statement : Keyword → Bool
-begins_statement w = begins_anywhere w || is_word w word.Lock
 
 -- the word of the language that a token is
 abbrev pub word_of : Option TokenKind → Option Keyword

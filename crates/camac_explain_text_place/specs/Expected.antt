@@ -8,10 +8,9 @@ use Rattle.camac_tokens.specs.declared.token.Keyword.TheVariants as word
 use Rattle.camac_tokens.specs.declared.token.Sign.{Sign}
 use Rattle.camac_tokens.specs.declared.token.Sign.TheVariants as sign
 use Rattle.camac_tokens.specs.declared.words.TheConstants.{KEYWORDS}
-use Rattle.camac_text_cursor.specs.Choice.{begins_declaration, compares, is_of_product, is_of_sum}
+use Rattle.camac_text_cursor.specs.Choice.{begins_declaration, begins_statement, compares, is_of_product, is_of_sum}
 use Rattle.camac_text_cursor.specs.declared.choice.Choice.TheVariants as choice
 use Rattle.camac_text_cursor.specs.declared.choice.Choices.{Choices}
-use Rattle.camac_explain_text_place.specs.Before.{begins_statement}
 use Rattle.camac_explain_text_place.specs.Place.{has}
 use Rattle.camac_explain_text_words.specs.Spelled.{is_mark, is_word, sign_text, word_text}
 use Rattle.camac_explain_text_place.specs.declared.expected.Expected.{Expected}

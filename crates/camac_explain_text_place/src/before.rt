@@ -1,11 +1,11 @@
 // What stands before a place of a script.
 
 ghost use Rattle.std.specs.Prelude.{◌≡◌, IfOk, OnOk, filter, option_copied, option_map, slice_get};
-ghost use Rattle.camac_explain_text_place.specs.Before.{assigned, begins_statement, begun, behind_token, called_in, closed, count_of, declared, declared_as, ended, in_body, is_before_variable, is_in_brackets, is_of_for, is_outside, is_sign, kind_behind, kind_declared_next, last_alone, near, open_line, opened, seen_as, standing, standing_of, wants_new_name, with_parameters, word_of};
+ghost use Rattle.camac_explain_text_place.specs.Before.{assigned, begun, behind_token, called_in, closed, count_of, declared, declared_as, ended, in_body, is_before_variable, is_in_brackets, is_of_for, is_outside, is_sign, kind_behind, kind_declared_next, last_alone, near, open_line, opened, seen_as, standing, standing_of, wants_new_name, with_parameters, word_of};
 
 use camac_lang::Name;
 use camac_lines::is_near;
-use camac_text::{Choice, NameKind};
+use camac_text::{Choice, NameKind, begins_statement};
 use camac_tokens::{Keyword, Sign, Token, TokenKind};
 use std::alloc::{AllocError, Global};
 
@@ -324,11 +324,4 @@ pub fn word_of(kind: Option<&TokenKind>) -> Option<Keyword>
         Some(TokenKind::Keyword(word)) => Some(*word),
         _ => None,
     }
-}
-
-/// Whether a word begins a statement: `lock`, too.
-pub fn begins_statement(word: Keyword) -> bool
-    ensures { result ≡ begins_statement word }
-{
-    Choice::Statement.has_word(word) || word == Keyword::Lock
 }

@@ -4,10 +4,9 @@ ghost use Rattle.std.specs.Prelude.{◌≡◌, ◌++◌, IfOk, OnOk, Some, filte
 ghost use Rattle.camac_explain_text_place.specs.Expected.{each_if, expected_of, expected_text, group_text, is_condition, is_group, is_name, is_of_condition, is_operator, is_sign_alone, is_value, is_word_alone, items_from, list_text};
 ghost use Rattle.camac_explain_text_place.specs.declared.expected.Expected.TheVariants as expected;
 
-use crate::before::begins_statement;
 use camac_explain_text_words::{sign_text, word_text};
 use camac_lines::before_item;
-use camac_text::{Choice, Choices};
+use camac_text::{Choice, Choices, begins_statement};
 use camac_tokens::{KEYWORDS, Keyword, SIGNS, Sign};
 use std::alloc::{AllocError, Global};
 use std::fmt;

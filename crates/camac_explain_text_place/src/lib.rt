@@ -5,6 +5,6 @@ mod before;
 mod expected;
 mod found;
 
-pub use before::{Before, Declared, begins_statement};
+pub use before::{Before, Declared};
 pub use expected::{expected_list, is_name, is_operator};
 pub use found::{Found, kind_at, rest_of, word_at};

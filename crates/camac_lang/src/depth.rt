@@ -3,12 +3,12 @@
 ghost use Rattle.std.specs.Prelude.{◌≡◌, ◌≤◌, suc, [], length, map, slice_get};
 ghost use Rattle.camac_lang.specs.Depth.{expression_depth, test_depth, part_depth, move_depth, depth_of, statement_depth, inner_depth, callable, callables_after, script_depth};
 ghost use Rattle.camac_lang.specs.Tests.{most};
-ghost use Rattle.camac_lang.specs.View.{expression_of, term_of, test_of, part_of, move_of, statement_of, statements_of, procedure_of, service_of, callable_of};
+ghost use Rattle.camac_lang.specs.View.{expression_of, term_of, test_of, part_of, move_of, action_of, statement_of, statements_of, procedure_of, service_of, callable_of};
 
 use crate::expression::{Expr, Form, Term};
 use crate::limits::PROCEDURES;
 use crate::script::{Procedure, Script, Service};
-use crate::tree::{Move, Part, Stmt, Test};
+use crate::tree::{Action, Move, Part, Stmt, Test};
 use arrayvec::ArrayVec;
 
 /// A procedure as its callers see it: how many arguments a call gives, and how many brackets and braces are open at most from its own
@@ -98,19 +98,7 @@ fn statement_depth(callables: &[Callable], statement: &Stmt) -> u32
     ensures { result ≡ statement_depth (map callable_of callables.now) (statement_of statement.now) }
 {
     match statement {
-        Stmt::LamCall(_) => 0,
-        Stmt::Assign(assignment) => expression_depth(&assignment.value),
-        Stmt::Put(put) => expression_depth(&put.value),
-        Stmt::SetRegister(setting) => expression_depth(&setting.crate_no).max(expression_depth(
-            &setting.station,
-        ).max(expression_depth(&setting.sub_address))),
-        Stmt::Single(single) => move_depth(&single.data),
-        Stmt::Scan(scan) => expression_depth(&scan.max),
-        Stmt::QStop { transfer } => expression_depth(&transfer.max),
-        Stmt::QRepeat { transfer, limit } => {
-            expression_depth(&transfer.max).max(expression_depth(limit))
-        }
-        Stmt::CrateCall(action) => expression_depth(&action.crate_no),
+        Stmt::Action(action) => action_depth(callables, action),
         Stmt::If { test, then, .. } => parts_depth(&test.parts).max(
             1 + block_depth(callables, then),
         ),
@@ -132,7 +120,28 @@ fn statement_depth(callables: &[Callable], statement: &Stmt) -> u32
         Stmt::Lock { crate_no, body, .. } => {
             expression_depth(crate_no).max(1 + block_depth(callables, body))
         }
-        Stmt::Call(call) => (1 + arguments_depth(&call.arguments)).max(called_depth(
+    }
+}
+
+fn action_depth(callables: &[Callable], action: &Action) -> u32
+    requires { statement_depth (map callable_of callables.now) (action_of action.now) ≤ 16 }
+    ensures { result ≡ statement_depth (map callable_of callables.now) (action_of action.now) }
+{
+    match action {
+        Action::LamCall(_) => 0,
+        Action::Assign(assignment) => expression_depth(&assignment.value),
+        Action::Put(put) => expression_depth(&put.value),
+        Action::SetRegister(setting) => expression_depth(&setting.crate_no).max(expression_depth(
+            &setting.station,
+        ).max(expression_depth(&setting.sub_address))),
+        Action::Single(single) => move_depth(&single.data),
+        Action::Scan(scan) => expression_depth(&scan.max),
+        Action::QStop { transfer } => expression_depth(&transfer.max),
+        Action::QRepeat { transfer, limit } => {
+            expression_depth(&transfer.max).max(expression_depth(limit))
+        }
+        Action::CrateCall(action) => expression_depth(&action.crate_no),
+        Action::Call(call) => (1 + arguments_depth(&call.arguments)).max(called_depth(
             callables,
             call.procedure,
         )),

@@ -22,7 +22,8 @@ pub use room::fits;
 pub use script::{Item, Lam, Parameter, Procedure, Script, Service, Table};
 pub use spot::Spot;
 pub use tree::{
-    AddressScan, Assignment, BlockTransfer, Cond, CrateAction, Divisor, ForHead, Keep, LamAction,
-    Move, Part, ProcedureCall, PutAction, RegisterSetting, SingleAction, Stmt, Test, WhileHead,
+    Action, AddressScan, Assignment, BlockTransfer, Cond, CrateAction, Divisor, ForHead, Keep,
+    LamAction, Move, Part, ProcedureCall, PutAction, RegisterSetting, SingleAction, Stmt, Test,
+    WhileHead,
 };
 pub use word::{CrateCall, LamCall, WordSize};

@@ -3,7 +3,7 @@
 
 ghost use Rattle.std.specs.Prelude.{◌≡◌, ◌≤◌, ◌↔◌, IfSome, IsSome};
 ghost use Rattle.camac_lang.specs.Tree.{spot_of};
-ghost use Rattle.camac_lang.specs.View.{statement_of};
+ghost use Rattle.camac_lang.specs.View.{action_of, statement_of};
 
 use crate::expression::Expr;
 use crate::spot::Spot;
@@ -198,9 +198,9 @@ pub struct WhileHead {
     pub keeps: Vec<Keep>,
 }
 
-/// A statement, with the spot of its first token. What each does is the language's meaning (camac_model).
+/// A statement that holds no others. What each does is the language's meaning (camac_model).
 #[derive(Drop)]
-pub enum Stmt {
+pub enum Action {
     Assign(Assignment),
     SetRegister(RegisterSetting),
     Single(SingleAction),
@@ -217,6 +217,32 @@ pub enum Stmt {
     Put(PutAction),
     CrateCall(CrateAction),
     LamCall(LamAction),
+    Call(ProcedureCall),
+}
+
+impl Action {
+    /// Where its first token stands.
+    pub fn spot(&self) -> Spot
+        ensures { result ≡ spot_of (action_of self.now) }
+    {
+        match self {
+            Action::Assign(assignment) => assignment.spot,
+            Action::SetRegister(setting) => setting.spot,
+            Action::Single(single) => single.spot,
+            Action::Scan(scan) => scan.spot,
+            Action::QStop { transfer } | Action::QRepeat { transfer, .. } => transfer.spot,
+            Action::Put(put) => put.spot,
+            Action::CrateCall(action) => action.spot,
+            Action::LamCall(action) => action.spot,
+            Action::Call(call) => call.spot,
+        }
+    }
+}
+
+/// A statement, with the spot of its first token: an action, or one that holds blocks.
+#[derive(Drop)]
+pub enum Stmt {
+    Action(Action),
     /// `if` without `else`
     If {
         spot: Spot,
@@ -252,7 +278,6 @@ pub enum Stmt {
         crate_no: Expr,
         body: Vec<Stmt>,
     },
-    Call(ProcedureCall),
 }
 
 impl Stmt {
@@ -261,17 +286,9 @@ impl Stmt {
         ensures { result ≡ spot_of (statement_of self.now) }
     {
         match self {
-            Stmt::Assign(assignment) => assignment.spot,
-            Stmt::SetRegister(setting) => setting.spot,
-            Stmt::Single(single) => single.spot,
-            Stmt::Scan(scan) => scan.spot,
-            Stmt::QStop { transfer } | Stmt::QRepeat { transfer, .. } => transfer.spot,
-            Stmt::Put(put) => put.spot,
-            Stmt::CrateCall(action) => action.spot,
-            Stmt::LamCall(action) => action.spot,
+            Stmt::Action(action) => action.spot(),
             Stmt::For { head, .. } => head.spot,
             Stmt::While { head, .. } => head.spot,
-            Stmt::Call(call) => call.spot,
             Stmt::If { spot, .. }
             | Stmt::IfElse { spot, .. }
             | Stmt::ForEach { spot, .. }

@@ -39,7 +39,7 @@ use Rattle.camac_names.specs.declared.fault.LinkCase.TheVariants.{Words}
 use Rattle.camac_names.specs.declared.fault.LinkFault.{LinkFault}
 use Rattle.camac_names.specs.declared.fault.LinkRule.{LinkRule}
 use Rattle.camac_names.specs.declared.fault.LinkRule.TheVariants.{StationWithoutBit, StationServedTwice, EventAboveBuffer}
-use Rattle.camac_checked.specs.Checked.{CheckedScript}
+use Rattle.camac_rules.specs.Checked.{CheckedScript}
 use Rattle.camac_check.specs.Least.{Finds, Headed, and_then, checked, event_fits, least, least_items, least_unannotated, linked, most, needing, procedure_first, procedure_needs, service_first, service_needing, service_needs}
 use Rattle.camac_check.specs.declared.fault.LeastFault.{LeastFault}
 use Rattle.camac_check.specs.declared.fault.LeastFault.TheVariants.{OutOfMemory, Link, Check}

@@ -14,7 +14,7 @@ use Rattle.camac_lang.specs.Scope.{is_well_formed}
 use Rattle.camac_names.specs.Link.{link_fault}
 use Rattle.camac_names.specs.Linked.{LinkedScript, IsLinked}
 use Rattle.camac_rules.specs.Accept.{accept}
-use Rattle.camac_checked.specs.Checked.{CheckedScript}
+use Rattle.camac_rules.specs.Checked.{CheckedScript}
 use Rattle.camac_check.specs.Judges.{Judges}
 use Rattle.camac_check.specs.declared.fault.LeastFault.{LeastFault}
 use Rattle.camac_check.specs.declared.fault.LeastFault.TheVariants.{OutOfMemory, Link, Check}

@@ -5,22 +5,17 @@ ghost use Rattle.std.specs.List.{flat_map};
 ghost use Rattle.camac_event.specs.Found.{entry_in};
 ghost use Rattle.camac_lines.specs.Events.{usage_text, start_text, word_text, event_line, last_line, events_text};
 ghost use Rattle.camac_lines.specs.Texts.{Puts};
-ghost use Rattle.camac_word.specs.Watched.{inner_of, has_failed};
 ghost use Rattle.camac_word.specs.Writing.{Writes};
 
 use crate::line::{LONGEST_LINE, Line};
-use camac_event::{EventFile, EventRecord, EventWords, Usage};
-use camac_word::{GlBit, Watched, WriteFault};
-use std::io::Write;
+use camac_event::{EventFile, EventRecord, EventWords, TextWriter, Usage};
+use camac_word::{GlBit, WriteFault};
 
 /// Writes the events of a file: of each a line of its number from 1, its GL bit, its usage in version Two, and its words; then a line of how
 /// many there are. After a write fault a prefix of this was written. It takes no memory.
-pub fn write_event_file<W: Write>(
-    out: &mut Watched<W>,
-    file: &EventFile<'_>,
-) -> Result<(), WriteFault>
-    ensures text { Writes (W.contents (inner_of out.old)) (W.contents (inner_of out.new)) result (events_text file.now.events) }
-    ensures failed { has_failed out.new ≡ (has_failed out.old || is_err result) }
+pub fn write_event_file<W: TextWriter>(out: &mut W, file: &EventFile<'_>) -> Result<(), WriteFault>
+    ensures text { Writes (W.contents out.old) (W.contents out.new) result (events_text file.now.events) }
+    ensures failed { W.failed out.new ≡ (W.failed out.old || is_err result) }
 {
     let mut line = Line::new();
     let mut records = file.records();
@@ -28,19 +23,19 @@ pub fn write_event_file<W: Write>(
         put_record(out, &mut line, &record)?;
     }
     push_last(&mut line, records.read());
-    out.write_text(line.as_bytes())
+    out.put_text(line.as_bytes())
 }
 
 // Puts the line of an event after what is laid out and not written yet.
-fn put_record<W: Write>(
-    out: &mut Watched<W>,
+fn put_record<W: TextWriter>(
+    out: &mut W,
     line: &mut Line,
     record: &EventRecord<'_>,
 ) -> Result<(), WriteFault>
     requires { length line.old ≤ FULL }
-    ensures text { Puts (W.contents (inner_of out.old)) (W.contents (inner_of out.new)) result (line.old ++ event_line record.now.number (entry_in record.now)) line.new }
+    ensures text { Puts (W.contents out.old) (W.contents out.new) result (line.old ++ event_line record.now.number (entry_in record.now)) line.new }
     ensures room { OnOk result (length line.new ≤ FULL) }
-    ensures failed { has_failed out.new ≡ (has_failed out.old || is_err result) }
+    ensures failed { W.failed out.new ≡ (W.failed out.old || is_err result) }
 {
     push_start(
         line,
@@ -54,15 +49,15 @@ fn put_record<W: Write>(
 }
 
 // Writes what is laid out where the line of another event may not fit after it.
-fn make_room<W: Write>(out: &mut Watched<W>, line: &mut Line) -> Result<(), WriteFault>
-    ensures text { Puts (W.contents (inner_of out.old)) (W.contents (inner_of out.new)) result line.old line.new }
+fn make_room<W: TextWriter>(out: &mut W, line: &mut Line) -> Result<(), WriteFault>
+    ensures text { Puts (W.contents out.old) (W.contents out.new) result line.old line.new }
     ensures room { OnOk result (length line.new ≤ FULL) }
-    ensures failed { has_failed out.new ≡ (has_failed out.old || is_err result) }
+    ensures failed { W.failed out.new ≡ (W.failed out.old || is_err result) }
 {
     if line.len() <= FULL {
         return Ok(());
     }
-    out.write_text(line.as_bytes())?;
+    out.put_text(line.as_bytes())?;
     line.clear();
     Ok(())
 }
@@ -110,20 +105,20 @@ fn push_usage(line: &mut Line, usage: Usage)
 }
 
 // Puts the words of a file and an LF after what is laid out. Where there is no more room, that is written.
-fn put_file_words<W: Write>(
-    out: &mut Watched<W>,
+fn put_file_words<W: TextWriter>(
+    out: &mut W,
     line: &mut Line,
     words: &EventWords<'_>,
 ) -> Result<(), WriteFault>
     requires { length line.old < LAST_WORD }
-    ensures text { Puts (W.contents (inner_of out.old)) (W.contents (inner_of out.new)) result (line.old ++ flat_map word_text words.now ++ codes "\n") line.new }
-    ensures failed { has_failed out.new ≡ (has_failed out.old || is_err result) }
+    ensures text { Puts (W.contents out.old) (W.contents out.new) result (line.old ++ flat_map word_text words.now ++ codes "\n") line.new }
+    ensures failed { W.failed out.new ≡ (W.failed out.old || is_err result) }
 {
     let mut first = 0;
     let mut room = (LONGEST_LINE - 1 - line.len()) / 7;
     'pieces: while words.len() - first > room {
         line.push_many_words(words, first, first + room);
-        out.write_text(line.as_bytes())?;
+        out.put_text(line.as_bytes())?;
         line.clear();
         first += room;
         room = MOST_WORDS;

@@ -2,7 +2,6 @@
 
 ghost use Rattle.std.specs.Prelude.{◌≡◌, ◌≤◌, ◌+◌, ◌||◌, ◌++◌, length, is_err, decimal};
 ghost use Rattle.camac_lines.specs.Refusal.{code_of, place_text, refusal_text, refusal_text_at};
-ghost use Rattle.camac_word.specs.Watched.{inner_of, has_failed};
 ghost use Rattle.camac_word.specs.Writing.{Writes};
 
 use crate::code::{
@@ -11,13 +10,12 @@ use crate::code::{
 };
 use crate::line::Line;
 use camac_answer::AnswerRule;
-use camac_event::EventFlaw;
+use camac_event::{EventFlaw, TextWriter};
 use camac_names::LinkRule;
 use camac_plan::PlanRule;
 use camac_rules::CheckRule;
 use camac_tokens::TextRule;
-use camac_word::{Watched, WriteFault};
-use std::io::Write;
+use camac_word::WriteFault;
 
 /// Why an input was refused, and where.
 #[derive(Clone, Copy, Debug, PartialEq, Eq)]
@@ -54,11 +52,11 @@ impl Refusal {
 }
 
 /// Writes the line of a refusal. After a write fault a prefix of it was written.
-pub fn write_refusal<W: Write>(out: &mut Watched<W>, refusal: Refusal) -> Result<(), WriteFault>
-    ensures text { Writes (W.contents (inner_of out.old)) (W.contents (inner_of out.new)) result (refusal_text refusal) }
-    ensures failed { has_failed out.new ≡ (has_failed out.old || is_err result) }
+pub fn write_refusal<W: TextWriter>(out: &mut W, refusal: Refusal) -> Result<(), WriteFault>
+    ensures text { Writes (W.contents out.old) (W.contents out.new) result (refusal_text refusal) }
+    ensures failed { W.failed out.new ≡ (W.failed out.old || is_err result) }
 {
-    out.write_text(refusal_line(refusal).as_bytes())
+    out.put_text(refusal_line(refusal).as_bytes())
 }
 
 /// The line of a refusal.

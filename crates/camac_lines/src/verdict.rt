@@ -11,8 +11,8 @@ ghost use Rattle.camac_word.specs.Watched.{inner_of, has_failed};
 ghost use Rattle.camac_word.specs.Writing.{Writes};
 
 use crate::line::Line;
-use camac_checked::{Bounds, Checked};
 use camac_lang::{Lam, Service};
+use camac_rules::{Bounds, Checked};
 use camac_word::{GlBit, Watched, WriteFault};
 use std::io::Write;
 

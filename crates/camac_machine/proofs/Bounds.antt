@@ -11,7 +11,7 @@ use Rattle.camac_lang.specs.Tree.{Service, Script}
 use Rattle.camac_lang.proofs.Places.{most_at}
 use Rattle.camac_lang.proofs.Standing.{services_stand}
 use Rattle.camac_branch.specs.Plan.{Layout}
-use Rattle.camac_checked.specs.Checked.{CheckedScript, IsChecked}
+use Rattle.camac_rules.specs.Checked.{CheckedScript, IsChecked}
 use Rattle.camac_lang.specs.Fits.{fits}
 use Rattle.camac_model.specs.Fine.{Bounds, IsFineService, AreFine}
 use Rattle.camac_model.specs.Headline.{IsWithinHeading, AreWithinHeadings}

@@ -1,10 +1,12 @@
 -- A machine that makes a transfer: its beginning, its cycles and its end.
-use Rattle.std.proofs.Common.{◌≡◌, ℕ, ◌+◌, ◌*◌, ◌^◌, ◌<◌, ◌≤◌, List, [], ◌∷◌, length, Option, Some, None, Bool, true, refl, sym, ap, subst, ◌∙◌, arith}
+use Rattle.std.proofs.Common.{◌≡◌, ℕ, ◌+◌, ◌*◌, ◌^◌, ◌<◌, ◌≤◌, List, [], ◌∷◌, length, Option, Some, None, Bool, true, false, refl, sym, ap, subst, ◌∙◌, arith}
 use Rattle.std.proofs.lemmas.Bool.{eqb-true, false≢true}
 use Rattle.std.proofs.lemmas.List.{append-nil}
+use Rattle.std.proofs.lemmas.Option.{none-some}
 use Rattle.std.specs.Borrow.{Bor}
-use Rattle.std.specs.Prelude.{IsSome, IfSome, nat_eq, option_map}
+use Rattle.std.specs.Prelude.{IsSome, IfSome, IfNone, nat_eq}
 use Rattle.camac_func.specs.declared.data.DataMove.{DataMove}
+use Rattle.camac_func.specs.declared.data.DataMove.TheVariants as moved
 use Rattle.camac_lang.specs.declared.tree.Stmt.{Stmt}
 use Rattle.camac_lang.specs.Tree.{Expression, Statement, address_scan, q_stop, q_repeat, on_line}
 use Rattle.camac_branch.specs.Address.{Address}
@@ -17,7 +19,7 @@ use Rattle.camac_branch.specs.declared.answer.CycleDone.{CycleDone}
 use Rattle.camac_branch.specs.declared.answer.Overrun.{Overrun}
 use Rattle.camac_esone.specs.Calls.{IsOnBranch}
 use Rattle.camac_esone.specs.Progress.{Left, Continues}
-use Rattle.camac_esone.specs.Transfers.{NextAddress, q_stop_next, q_repeat_next, scan_next, tally}
+use Rattle.camac_esone.specs.Transfers.{NextAddress, when, q_stop_next, q_repeat_next, scan_next, tally}
 use Rattle.camac_model.specs.State.{State, stepped, missed_with, with_variable}
 use Rattle.camac_model.specs.Behaviour.{does, ends, stops, overrun, Action, then_do, given, unless_wrong}
 use Rattle.camac_model.specs.Cycle.{cycle, after_cycle}
@@ -32,9 +34,10 @@ use Rattle.camac_machine.specs.declared.machine.TransferCycle.{TransferCycle}
 use Rattle.camac_machine.specs.declared.machine.Pending.{Pending}
 use Rattle.camac_machine.specs.declared.machine.Pending.TheVariants.{Cycle, Read, Lock, Transfer, Pause}
 use Rattle.camac_machine.specs.declared.transfer.Course.{Course}
+use Rattle.camac_machine.specs.declared.transfer.Course.TheVariants.{Stop, Repeat, Scan}
 use Rattle.camac_machine.specs.declared.transfer.Transfer as held
-use Rattle.camac_machine.specs.Course.{left_at, words_from, words_sent, data_of, words_after}
-use Rattle.camac_machine.specs.MachineState.{variables_here, registers_here, reach, with_value, context_in, state_of, bounds_of, left_in, stands, made, pending_of, after_pending, cycle_of, transferred, IsFineHere, FineThen, HasRoom, IsPending, StandsIn, Wants, Advances, Proceeds, Settles, Makes, IsRefused, Takes, Overruns}
+use Rattle.camac_machine.specs.Course.{left_at, stays, words_from, words_sent, data_of, words_after}
+use Rattle.camac_machine.specs.MachineState.{variables_here, registers_here, reach, with_value, context_in, state_of, bounds_of, left_in, stands, made, pending_of, after_pending, transferred, IsFineHere, FineThen, HasRoom, IsPending, IsReady, IsWidthOf, StandsIn, Wants, Advances, Proceeds, Settles, Makes, IsRefused, Takes, Overruns}
 use Rattle.camac_machine.specs.Rest.{address_of, transfers, awaited, follows, transfer_left, rest_in, says}
 use Rattle.camac_machine.proofs.Pauses.{asked_all}
 use Rattle.camac_machine.proofs.Actions.{known}
@@ -47,9 +50,26 @@ use Rattle.camac_machine.proofs.Loops.{fine_as}
 use Rattle.camac_machine.proofs.Takes.{cost_fits, fine_taken, refused, goes_on, room_after}
 use Rattle.camac_machine.proofs.Transfers.{transfer_continues, transfer_starts, keep_is, transfer_over, transfer_goes, transfer_within, transfer_can}
 
+-- a transfer that sends no table reads
+pub reads_in : (t : Course) (table : Option (Bor (List ℕ))) (d : DataMove) → data_of t (words_sent table) ≡ Some d → IfNone table (d ≡ moved.In)
+reads_in t None d e = cc
+reads_in t (Some words) d e = tt
+
 -- the next cycle of a transfer
-abbrev cycle_at : Command → Course → Option (Bor (List ℕ)) → ℕ → TransferCycle
-cycle_at k t table x = record { command = k; course = t; table = table; tally = x }
+abbrev cycle_at : Command → Option ℕ → Course → Option (Bor (List ℕ)) → ℕ → TransferCycle
+cycle_at k kept t table x = record { command = k; kept_width = kept; course = t; table = table; tally = x }
+
+-- a transfer that stays at its address, after a cycle with this Q
+module _ (at : Address) where
+  stays_when : (b : Bool) (x : Address) → when b x ≡ Some at → (c : Bool) → IfSome (when c x) (λ y. at ≡ y)
+  stays_when true x e true = cc
+  stays_when true x e false = tt
+  stays_when false x e c = absurd (none-some at e)
+
+  pub stays_at : (t later : Course) (q : Bool) → stays t ≡ true → (left_at t).next_address [] ≡ Some at → Continues (left_at t) q (left_at later) → IfSome ((left_at later).next_address []) (λ y. at ≡ y)
+  stays_at (Stop h) later q s e c = rw (c.next_address []) (stays_when _ h.at e _)
+  stays_at (Repeat h) later q s e c = rw (c.next_address []) (stays_when _ h.at e _)
+  stays_at (Scan h) later q s e c = absurd (false≢true s)
 
 module _ {V D C : ℕ} (h : Machine V D C) where
   abbrev plan : Layout
@@ -92,14 +112,14 @@ module _ {V D C : ℕ} (h : Machine V D C) where
       go (Some at) e = let can = next_can t at e fine in some_is (data_of t.course (words_sent t.table)) can.0 can.1
 
   -- a transfer goes on to its next cycle
-  pub proceeds_on : (t : held.Transfer) (k : Command) → FineThen h (λ c. transferred c t) → t.tally < (reach h).variables → (left_at t.course).next_address [] ≡ Some (address_of k) → data_of t.course (words_sent t.table) ≡ Some k.mv → k.f ≡ t.function → HasRoom h
-      → Proceeds h (λ c. transferred c t) (option_map (cycle_of t) (Some k)) h
-  proceeds_on t k fine lt e d same r =
+  pub proceeds_on : (t : held.Transfer) (k : Command) (kept : Option ℕ) → IfSome kept (IsWidthOf plan k) → FineThen h (λ c. transferred c t) → t.tally < (reach h).variables → (left_at t.course).next_address [] ≡ Some (address_of k) → data_of t.course (words_sent t.table) ≡ Some k.mv → k.f ≡ t.function → HasRoom h
+      → Proceeds h (λ c. transferred c t) (Some (Transfer (cycle_at k kept t.course t.table t.tally))) h
+  proceeds_on t k kept w fine lt e d same r =
       let can = next_can t (address_of k) e fine in
       record {
         room = r;
         same = refl;
-        awaits = (can.2, (lt, e, d));
+        awaits = (can.2, (lt, e, d, w));
         wants = λ answers. ap (λ f. awaited (context_in h.checked.now) (transfers t.course f (words_sent t.table) t.tally) (state_of h answers)) same;
         goes = λ answers. ap (λ f. then_do (awaited (context_in h.checked.now) (transfers t.course f (words_sent t.table) t.tally) (state_of h answers)) (left_in h)) same;
       }
@@ -301,26 +321,45 @@ module _ {V D C : ℕ} (h : Machine V D C) where
       omega (arith, steps, frames)
 
   -- what is left after a cycle is the transfer after its Q
-  module _ (k : Command) (t later : Course) (table : Option (Bor (List ℕ))) (x : ℕ) (c : Continues (left_at t) h.q (left_at later)) where
-    abbrev further : held.Transfer
+  module _ (k : Command) (kept : Option ℕ) (t later : Course) (table : Option (Bor (List ℕ))) (x : ℕ) (c : Continues (left_at t) h.q (left_at later)) where
+    abbrev pub further : held.Transfer
     further = record { course = later; function = k.f; table = table; tally = x }
 
-    follows_on : (answers : List Answer) → follows (context_in h.checked.now) (pending_of (Transfer (cycle_at k t table x))) (state_of h answers) ≡ transferred (context_in h.checked.now) further (state_of h answers)
+    follows_on : (answers : List Answer) → follows (context_in h.checked.now) (pending_of (Transfer (cycle_at k kept t table x))) (state_of h answers) ≡ transferred (context_in h.checked.now) further (state_of h answers)
     unfolding awaited follows
     follows_on answers = transfer_continues plan k.f (words_sent table) (left_at t) (left_at later) x h.q (state_of h answers) c
 
-    pub further_fine : FineThen h (λ c. follows c (pending_of (Transfer (cycle_at k t table x)))) → FineThen h (λ c. transferred c further)
-    further_fine fine = fine_as h (λ c. follows c (pending_of (Transfer (cycle_at k t table x)))) (λ c. transferred c further) follows_on fine
+    pub further_fine : FineThen h (λ c. follows c (pending_of (Transfer (cycle_at k kept t table x)))) → FineThen h (λ c. transferred c further)
+    further_fine fine = fine_as h (λ c. follows c (pending_of (Transfer (cycle_at k kept t table x)))) (λ c. transferred c further) follows_on fine
 
-    pub further_proceeds : (next' : Option Pending) (new : Machine V D C) → Proceeds h (λ c. transferred c further) next' new → Proceeds h (λ c. after_pending c (Some (Transfer (cycle_at k t table x)))) next' new
+    pub further_proceeds : (next' : Option Pending) (new : Machine V D C) → Proceeds h (λ c. transferred c further) next' new → Proceeds h (λ c. after_pending c (Some (Transfer (cycle_at k kept t table x)))) next' new
     further_proceeds next' new p =
         record {
           room = p.room;
           same = p.same;
           awaits = p.awaits;
-          wants = wants_along (λ c. transferred c further) (λ c. after_pending c (Some (Transfer (cycle_at k t table x)))) next' new (λ answers. sym (follows_on answers)) p.wants;
+          wants = wants_along (λ c. transferred c further) (λ c. after_pending c (Some (Transfer (cycle_at k kept t table x)))) next' new (λ answers. sym (follows_on answers)) p.wants;
           goes = λ answers. p.goes answers ∙ ap (λ b. then_do b (left_in h)) (sym (follows_on answers));
         }
+
+    -- its cycle after it moved on
+    module _ (moved' : TransferCycle) (same : moved' ≡ record (cycle_at k kept later table x) { command = moved'.command; kept_width = moved'.kept_width }) (ready : IsReady h (Transfer (cycle_at k kept t table x))) (room : HasRoom h) (fine : FineThen h (λ c. follows c (pending_of (Transfer (cycle_at k kept t table x))))) where
+      width_stays : (new : Option ℕ) → moved'.command.f ≡ k.f → IfSome new (λ w. (kept ≡ Some w) × (address_of moved'.command ≡ address_of k)) → IfSome new (IsWidthOf plan moved'.command)
+      width_stays None e all = tt
+      width_stays (Some w) e all =
+          let is : IfSome (Some w) (IsWidthOf plan k) = subst (λ o. IfSome o (IsWidthOf plan k)) all.0 ready.3 in
+          (is.0 ∙ sym (ap (λ at. width plan at moved'.command.f) all.1 ∙ ap (λ f. width plan (address_of k) f) e), is.1)
+
+      pub moves_on : (left_at later).next_address [] ≡ Some (address_of moved'.command) → data_of later (words_sent table) ≡ Some moved'.command.mv → moved'.command.f ≡ k.f → IfSome moved'.kept_width (λ w. (kept ≡ Some w) × (address_of moved'.command ≡ address_of k))
+          → Proceeds h (λ c. after_pending c (Some (Transfer (cycle_at k kept t table x)))) (Some (Transfer moved')) h
+      moves_on next sends e all =
+          subst (λ w. Proceeds h (λ c. after_pending c (Some (Transfer (cycle_at k kept t table x)))) (Some (Transfer w)) h) (sym same)
+          (further_proceeds _ h (proceeds_on further moved'.command moved'.kept_width (width_stays moved'.kept_width e all) (further_fine fine) ready.0 next sends e room))
+
+      pub moves_over : (n : ℕ) (new : Machine V D C) → (left_at later).next_address [] ≡ None → n ≡ (left_at moved'.course).tally → new ≡ with_value h moved'.tally n → Proceeds h (λ c. after_pending c (Some (Transfer (cycle_at k kept t table x)))) None new
+      moves_over n new none counts is =
+          further_proceeds None new (proceeds_over further new none ready.0
+          (is ∙ ap (λ y. with_value h y n) (ap (λ (w : TransferCycle). w.tally) same) ∙ ap (λ m. with_value h x m) (counts ∙ ap (λ (w : TransferCycle). (left_at w.course).tally) same)) room)
 
   -- what goes on at once, whatever it is
   module _ (go : Context → Action) (mid : Machine V D C) (quiet : h.unlocks.items ≡ []) where
@@ -378,7 +417,7 @@ module _ {V D C : ℕ} (h : Machine V D C) where
   pause_alone answers = refl
 
 -- a cycle of a transfer
-module _ {V D C : ℕ} (h : Machine V D C) (k : Command) (t : Course) (table : Option (Bor (List ℕ))) (x : ℕ) (a : Answer) (p : IsPending h (Transfer (cycle_at k t table x))) where
+module _ {V D C : ℕ} (h : Machine V D C) (k : Command) (kept : Option ℕ) (t : Course) (table : Option (Bor (List ℕ))) (x : ℕ) (a : Answer) (p : IsPending h (Transfer (cycle_at k kept t table x))) where
   abbrev left : Left
   left = left_at t
 
@@ -394,7 +433,7 @@ module _ {V D C : ℕ} (h : Machine V D C) (k : Command) (t : Course) (table : O
   abbrev G : List Answer → Reply → Action
   G answers r u = transfer h.checked.now.plan k.f words_left left.next_address over (r.q ∷ []) answers (stepped (keep_word words_left bits r u))
 
-  goes_first : (answers : List Answer) → awaited (context_in h.checked.now) (pending_of (Transfer (cycle_at k t table x))) (state_of h (a ∷ answers)) ≡ cycle h.checked.now.plan (address_of k) k.f k.mv (a ∷ answers) (G answers) (state_of h (a ∷ answers))
+  goes_first : (answers : List Answer) → awaited (context_in h.checked.now) (pending_of (Transfer (cycle_at k kept t table x))) (state_of h (a ∷ answers)) ≡ cycle h.checked.now.plan (address_of k) k.f k.mv (a ∷ answers) (G answers) (state_of h (a ∷ answers))
   unfolding awaited
   goes_first answers = transfer_goes h.checked.now.plan k.f words_left left.next_address over [] (address_of k) k.mv p.1.1 p.1.2 a answers (state_of h (a ∷ answers))
 
@@ -403,13 +442,13 @@ module _ {V D C : ℕ} (h : Machine V D C) (k : Command) (t : Course) (table : O
       left_within h k.f (words_sent table) left x (r.q ∷ []) (stepped (record u { words = words_after (words_sent table) bits r u.words }))
       (subst (λ (v : State). IsFineHere h (then_do (transfer h.checked.now.plan k.f words_left left.next_address over (r.q ∷ []) [] (stepped v)) (left_in h))) (keep_is left.tally (words_sent table) bits r u) fine)
 
-  pub transfer_overruns : (o : Overrun) → IsRefused h k.c a.wait o → Overruns h (Transfer (cycle_at k t table x)) a o
+  pub transfer_overruns : (o : Overrun) → IsRefused h k.c a.wait o → Overruns h (Transfer (cycle_at k kept t table x)) a o
   transfer_overruns o r = λ answers.
       ap (λ b. then_do b (left_in h)) (goes_first answers)
       ∙ refused h k a p.0 G answers r.refused
       ∙ ap (λ (y : Overrun). stops (overrun y.c y.wait) (state_of h (a ∷ answers))) (sym r.overrun)
 
-  module _ (fine : (answers : List Answer) → IsFineHere h (stands (Some (Transfer (cycle_at k t table x))) h answers)) (room : HasRoom h) where
+  module _ (fine : (answers : List Answer) → IsFineHere h (stands (Some (Transfer (cycle_at k kept t table x))) h answers)) (room : HasRoom h) where
     cycle_fine : (answers : List Answer) → IsFineHere h (then_do (cycle h.checked.now.plan (address_of k) k.f k.mv (a ∷ answers) (G answers) (state_of h (a ∷ answers))) (left_in h))
     cycle_fine answers = subst (λ b. IsFineHere h (then_do b (left_in h))) (goes_first answers) (fine (a ∷ answers))
 
@@ -424,6 +463,11 @@ module _ {V D C : ℕ} (h : Machine V D C) (k : Command) (t : Course) (table : O
       both_within =
           let w = within_after _ _ (fine_taken h k a p.0 G cycle_fine m.permitted []) in
           subst (λ (e : CycleDone). (length (kept_words h e) ≤ (bounds_of h).words) × (h.steps + 1 ≤ (bounds_of h).steps)) (sym m.done) (w.words, w.steps)
+
+      pub width_kept : IfSome kept (IsWidthOf mid.checked.now.plan d.command)
+      width_kept =
+          subst (λ (n : Machine V D C). IfSome kept (IsWidthOf n.checked.now.plan d.command)) (sym m.same)
+          (subst (λ (e : CycleDone). IfSome kept (IsWidthOf h.checked.now.plan e.command)) (sym m.done) p.1.3)
 
       same_words : kept_words mid d ≡ kept_words h d
       same_words = ap (λ (n : Machine V D C). kept_words n d) m.same
@@ -449,12 +493,12 @@ module _ {V D C : ℕ} (h : Machine V D C) (k : Command) (t : Course) (table : O
             ap (λ (n : Machine V D C). record n { steps = n.steps + 1 }) same
             ∙ ap (λ (n : Machine V D C). record n { words = last.words; steps = n.steps + 1 }) m.same
 
-        pub takes_transfer : last.words ≡ kept_words mid d → Takes h (Transfer (cycle_at k t table x)) a (item.Cycle d) (record last { steps = last.steps + 1 })
+        pub takes_transfer : last.words ≡ kept_words mid d → Takes h (Transfer (cycle_at k kept t table x)) a (item.Cycle d) (record last { steps = last.steps + 1 })
         unfolding follows
         takes_transfer e =
             let ws : last.words ≡ words_after (words_sent table) bits d.reply h.words =
             e ∙ same_words ∙ ap (λ (c : Command). words_after (words_sent table) (width h.checked.now.plan (address_of c) c.f) d.reply h.words) (ap (λ (n : CycleDone). n.command) m.done) in
-            subst (λ n. Takes h (Transfer (cycle_at k t table x)) a (item.Cycle d) n) (sym same_final) (record {
+            subst (λ n. Takes h (Transfer (cycle_at k kept t table x)) a (item.Cycle d) n) (sym same_final) (record {
               room = room_kept (room_after h k mid.branch d.reply.q d.reply.x d.wait m.branch room);
               checked = refl;
               service = refl;
@@ -462,7 +506,7 @@ module _ {V D C : ℕ} (h : Machine V D C) (k : Command) (t : Course) (table : O
               unlocks = refl;
               steps = omega arith;
               few = omega arith;
-              can_follow = (p.1.0, some_is ((left_at t).next_address []) (address_of k) p.1.1);
+              can_follow = p.1;
               goes = λ answers.
                   let made' : State = after_cycle (address_of k) k.f d.reply d.wait answers (state_of h (a ∷ answers)) in
                   ap (λ b. then_do b (left_in h)) (goes_first answers)

@@ -20,7 +20,6 @@ pub mod Lams
 pub mod Fitted
 pub mod Calls
 pub mod Bounds
-pub mod Trees
 pub mod Lists
 pub mod Turns
 pub mod Firsts

@@ -1,5 +1,5 @@
 -- How far a transfer is, and what its next cycle moves.
-use Rattle.std.specs.Prelude.{ℕ, Bool, false, List, [], ◌∷◌, ◌++◌, Option, Some, None, option_map, drop, if◌then◌else◌}
+use Rattle.std.specs.Prelude.{ℕ, Bool, true, false, List, [], ◌∷◌, ◌++◌, Option, Some, None, option_map, drop, if◌then◌else◌}
 use Rattle.std.specs.Borrow.{Bor}
 use Rattle.camac_func.specs.declared.data.DataMove.{DataMove}
 use Rattle.camac_branch.specs.Branch.{Reply}
@@ -15,6 +15,11 @@ abbrev pub left_at : Course → Left
 left_at (Stop h) = q_stop_left h
 left_at (Repeat h) = q_repeat_left h
 left_at (Scan h) = scan_left h
+
+-- whether all its cycles go to one address
+abbrev pub stays : Course → Bool
+stays (Scan h) = false
+stays _ = true
 
 -- the words of a table from one on, where there is a table
 abbrev pub words_from : ℕ → Option (List ℕ) → Option (List ℕ)

@@ -7,11 +7,12 @@ use Rattle.camac_branch.specs.Address.{Address}
 use Rattle.camac_lang.specs.View.{part_of, statement_of, statements_of}
 use Rattle.camac_branch.specs.Branch.{Branch, Answer, reply_to, branch_after, with_lock}
 use Rattle.camac_branch.specs.Crates.{branch_of, is_permitted}
-use Rattle.camac_branch.specs.Plan.{crate_waits}
+use Rattle.camac_branch.specs.Allowed.{width}
+use Rattle.camac_branch.specs.Plan.{Layout, crate_waits}
 use Rattle.camac_branch.specs.declared.answer.CycleDone.{CycleDone}
 use Rattle.camac_branch.specs.declared.answer.Overrun.{Overrun}
 use Rattle.camac_branch.specs.declared.answer.Command.{Command}
-use Rattle.camac_checked.specs.Checked.{CheckedScript, linked_of}
+use Rattle.camac_rules.specs.Checked.{CheckedScript, linked_of}
 use Rattle.camac_event.specs.declared.event.Usage.{Usage}
 use Rattle.camac_model.specs.State.{State, Variables, Registers, missed_with}
 use Rattle.camac_model.specs.Behaviour.{Behaviour, does, ends, stops, Piece, demanded, cycled, lock_taken, lock_released, overrun, Action, then_do}
@@ -69,10 +70,6 @@ opens_of vs rs fs = map (open_of vs rs) fs
 abbrev pub transfer_of : Transfer → Operation
 transfer_of t = transfers t.course t.function (words_sent t.table) t.tally
 
--- a transfer that is so far, with this function, the words that it sends and the variable of its tally
-abbrev pub transfer_at : Course → ℕ → Option (Bor (List ℕ)) → ℕ → Transfer
-transfer_at course function table tally = record { course = course; function = function; table = table; tally = tally }
-
 -- what is left of a transfer
 abbrev pub transferred : Context → Transfer → Action
 transferred c t s = awaited c (transfer_of t) s
@@ -92,10 +89,9 @@ abbrev pub asked : Option Pending → Option Pending
 asked None = None
 asked (Some w) = if is_pause (pending_of w) then None else Some w
 
--- a transfer goes on after a cycle that it wanted, and sets one of so many variables
-abbrev pub CanFollow : ℕ → Pending → Type 0
-CanFollow v (pending.Transfer w) = (w.tally < v) × IsSome ((left_at w.course).next_address [])
-CanFollow v _ = Unit {0}
+-- a transfer keeps this width of its command, and it is that of the plan
+abbrev pub IsWidthOf : Layout → Command → ℕ → Type 0
+IsWidthOf plan k kept = (kept ≡ width plan (address_of k) k.f) × (kept ≤ 24)
 
 -- the first statement of the innermost of open blocks is taken off it
 pub record TakesFirst (old : List Frame) (first : Stmt) (new : List Frame) : Type 0 where
@@ -128,10 +124,6 @@ pub record ReturnsTo (fs : List Frame) (caller : Scope) : Type 0 where
 -- the innermost of open blocks has no statement left
 abbrev pub LastIsOver : List Frame → Type 0
 LastIsOver fs = (before : List Frame) (last : Frame) → fs ≡ before ++ last ∷ [] → last.rest.now ≡ []
-
--- the next cycle of a transfer, with this command
-abbrev pub cycle_of : Transfer → Command → Pending
-cycle_of t k = pending.Transfer (record { command = k; course = t.course; table = t.table; tally = t.tally })
 
 -- what is wanted, where something is
 abbrev pub wanted_if : Bool → Option Pending → Option Pending
@@ -270,7 +262,13 @@ module _ {V D C : ℕ} where
       ((branch_of h.branch k).locked ≡ false) × (1 ≤ k) × (k ≤ 7) × Opens (reach h) (free h) (statements_of body.now)
   IsReady h (pending.Transfer w) =
       (w.tally < (reach h).variables) × ((left_at w.course).next_address [] ≡ Some (address_of w.command)) × (data_of w.course (words_sent w.table) ≡ Some w.command.mv)
+      × IfSome w.kept_width (IsWidthOf h.checked.now.plan w.command)
   IsReady h Pause = Unit {0}
+
+  -- a transfer goes on after a cycle that it wanted
+  abbrev pub CanFollow : Machine V D C → Pending → Type 0
+  CanFollow h (pending.Transfer w) = IsReady h (pending.Transfer w)
+  CanFollow h _ = Unit {0}
 
   abbrev pub IsPending : Machine V D C → Pending → Type 0
   IsPending h w = IsSomeAnd (crate_of w) (λ k. IsSome (crate_waits h.checked.now.plan k)) × IsReady h w
@@ -412,7 +410,7 @@ module _ {V D C : ℕ} where
     pub unlocks : new.unlocks ≡ old.unlocks
     pub steps : old.steps ≤ new.steps
     pub few : new.steps ≤ old.steps + 1
-    pub can_follow : CanFollow (reach new).variables pending
+    pub can_follow : CanFollow new pending
     pub goes :
         (answers : List Answer)
         → stands (Some pending) old (answer ∷ answers) ≡ does (piece_of used) (then_do (follows (context_in new.checked.now) (pending_of pending) (state_of new answers)) (left_in new))

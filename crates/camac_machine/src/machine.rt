@@ -29,10 +29,10 @@ use crate::transfer::{Course, Transfer};
 use crate::value::value_of;
 use arrayvec::ArrayVec;
 use camac_branch::{Answer, Branch, Command};
-use camac_checked::Checked;
 use camac_esone::{Address, QRepeat, QStop, Scan};
 use camac_event::{EventBuffer, Usage};
-use camac_lang::{CrateCall, Expr, LamCall, Part, Stmt, limits};
+use camac_lang::{Action, CrateCall, Expr, LamCall, Part, Stmt, limits};
+use camac_rules::Checked;
 use camac_word::{CrateNo, GlBit, Word24};
 
 /// More steps than any service makes: with it none pauses.
@@ -105,6 +105,8 @@ pub enum Pending<'a> {
 #[derive(Clone, Copy)]
 pub struct TransferCycle<'a> {
     pub command: Command,
+    /// The width of the command, where all cycles have the same one; else it is looked up.
+    pub kept_width: Option<u32>,
     pub course: Course,
     pub table: Option<&'a [Word24]>,
     pub tally: usize,
@@ -261,33 +263,39 @@ impl<'a, const V: usize, const DEPTH: usize, const CAP: usize> Machine<'a, V, DE
     {
         self.steps += 1;
         match statement {
-            Stmt::Assign(assignment) => {
-                self.assign(assignment);
-                false
-            }
-            Stmt::SetRegister(setting) => {
-                self.set_register(setting);
-                false
-            }
-            Stmt::Put(action) => {
-                self.put(action);
-                false
-            }
-            Stmt::Single(action) => {
-                self.single(action, pending);
-                true
-            }
-            Stmt::CrateCall(action) => {
-                self.call_crate(action, pending);
-                true
-            }
-            Stmt::LamCall(action) => {
-                self.call_lam(action, pending);
-                true
-            }
-            Stmt::Scan(scan) => self.scan(scan, pending),
-            Stmt::QStop { transfer } => self.q_stop(transfer, pending),
-            Stmt::QRepeat { transfer, limit } => self.q_repeat(transfer, limit, pending),
+            Stmt::Action(action) => match action {
+                Action::Assign(assignment) => {
+                    self.assign(assignment);
+                    false
+                }
+                Action::SetRegister(setting) => {
+                    self.set_register(setting);
+                    false
+                }
+                Action::Put(action) => {
+                    self.put(action);
+                    false
+                }
+                Action::Single(action) => {
+                    self.single(action, pending);
+                    true
+                }
+                Action::CrateCall(action) => {
+                    self.call_crate(action, pending);
+                    true
+                }
+                Action::LamCall(action) => {
+                    self.call_lam(action, pending);
+                    true
+                }
+                Action::Scan(scan) => self.scan(scan, pending),
+                Action::QStop { transfer } => self.q_stop(transfer, pending),
+                Action::QRepeat { transfer, limit } => self.q_repeat(transfer, limit, pending),
+                Action::Call(call) => {
+                    self.call(call);
+                    false
+                }
+            },
             Stmt::If { test, then, .. } => {
                 self.choose(&test.parts, then, &[]);
                 false
@@ -321,10 +329,6 @@ impl<'a, const V: usize, const DEPTH: usize, const CAP: usize> Machine<'a, V, DE
             }
             Stmt::While { head, body } => {
                 self.test_while(&head.test.parts, limits::TURNS, body);
-                false
-            }
-            Stmt::Call(call) => {
-                self.call(call);
                 false
             }
         }

@@ -3,7 +3,7 @@
 ghost use Rattle.std.specs.Prelude.{◌≡◌, ◌<◌, ◌^◌, [], Some, IsSome, IfSome, option_map};
 ghost use Rattle.camac_esone.specs.Calls.{IsOnBranch};
 ghost use Rattle.camac_esone.specs.Progress.{Continues};
-ghost use Rattle.camac_machine.specs.Course.{left_at, data_of, words_sent};
+ghost use Rattle.camac_machine.specs.Course.{left_at, data_of, stays, words_sent};
 ghost use Rattle.camac_machine.specs.Rest.{address_of};
 
 use crate::command::command;
@@ -32,6 +32,17 @@ impl Course {
             Course::Stop(stop) => stop.next(),
             Course::Repeat(repeat) => repeat.next(),
             Course::Scan(scan) => scan.next(),
+        }
+    }
+
+    // Whether all its cycles go to one address.
+    pub(crate) fn stays(&self) -> bool
+        ensures { result ≡ stays self.now }
+    {
+        match self {
+            Course::Stop(_) => true,
+            Course::Repeat(_) => true,
+            Course::Scan(_) => false,
         }
     }
 
@@ -80,7 +91,7 @@ impl Course {
     }
 
     // What the next cycle moves.
-    fn data(&self, table: Option<&[Word24]>) -> DataMove
+    pub(crate) fn data(&self, table: Option<&[Word24]>) -> DataMove
         requires { IsSome (data_of self.now (words_sent table)) }
         ensures { data_of self.now (words_sent table.entry) ≡ Some result }
     {

@@ -33,8 +33,8 @@ AnyStop u w s = Unit {0}
 abbrev AnyEnd : Usage → Unit {0} → Type 0
 AnyEnd u v = Unit {0}
 
-abbrev Tells : Usage → Behaviour (Unit {0}) → Type 0
-Tells u b = Meets used_with TellsUsage AnyStop AnyEnd u b
+abbrev MeetsUsage : Usage → Behaviour (Unit {0}) → Type 0
+MeetsUsage u b = Meets used_with TellsUsage AnyStop AnyEnd u b
 
 at_any_stop : (u : Usage) (b : Behaviour State) → Meets used_with TellsUsage (Still used_with TellsUsage Counted) Counted u b → Meets used_with TellsUsage AnyStop Counted u b
 at_any_stop u (does p b) h = (h.0, at_any_stop (used_with u p) b h.1)
@@ -42,12 +42,12 @@ at_any_stop u (ends s) h = h
 at_any_stop u (stops w s) h = tt
 
 module _ (plan : Layout) (script : Script) (n : ℕ) where
-  rounds_tell : (k : ℕ) (u : Usage) (b : Branch) (answers : List Answer) → Tells u (rounds k (context plan script) n script.services b answers)
+  rounds_tell : (k : ℕ) (u : Usage) (b : Branch) (answers : List Answer) → MeetsUsage u (rounds k (context plan script) n script.services b answers)
   rounds_tell zero u b answers = tt
   rounds_tell (suc k) u b [] = tt
   rounds_tell (suc k) u b (a ∷ rest) = (tt, go (service_for (context plan script) (pattern_of plan b a.gl) script.services) (λ u' b' rest'. rounds_tell k u' b' rest'))
     where
-      go : (o : Option Chosen) → ((u' : Usage) (b' : Branch) (rest' : List Answer) → Tells u' (rounds k (context plan script) n script.services b' rest')) → Tells none_used (serve (context plan script) n o b rest (rounds k (context plan script) n script.services))
+      go : (o : Option Chosen) → ((u' : Usage) (b' : Branch) (rest' : List Answer) → MeetsUsage u' (rounds k (context plan script) n script.services b' rest')) → MeetsUsage none_used (serve (context plan script) n o b rest (rounds k (context plan script) n script.services))
       go None ih = ih none_used b rest
       go (Some v) ih =
           let o : Behaviour State = service_meaning (context plan script) n v.service b rest in
@@ -55,7 +55,7 @@ module _ (plan : Layout) (script : Script) (n : ℕ) where
           (at_any_stop none_used o (script_keeps used_with TellsUsage Counted stepwise plan script v.service.body n none_used (fresh b rest) (refl, refl)))
           (λ u' s i. (i, ih u' s.branch s.answers))
 
-events_tell : (u : Usage) (b : Behaviour (Unit {0})) → Tells u b → EventsTell u (pieces b)
+events_tell : (u : Usage) (b : Behaviour (Unit {0})) → MeetsUsage u b → EventsTell u (pieces b)
 events_tell u (does p b) h = (h.0, events_tell (used_with u p) b h.1)
 events_tell u (ends v) h = tt
 events_tell u (stops w s) h = tt

@@ -14,7 +14,7 @@ use Rattle.camac_plan.specs.declared.fault.PlanRule.TheVariants.{NotToml, TooDee
 use Rattle.camac_plan.specs.declared.fault.PlanRule.{PlanRule}
 use Rattle.camac_plan.specs.Broken.{broken, next}
 use Rattle.camac_plan.specs.Nesting.{too_deep}
-use Rattle.camac_plan.specs.Reading.{parsed, document_of, plan_of, shallow, reading_at, reading, by_rule, Tells, GivesOrTells, ReadsOrTells, stops_in, stops_at, StopsWithin, TellsCase, TellsNoToml, TellsTooDeep, empty_plan}
+use Rattle.camac_plan.specs.Reading.{parsed, document_of, plan_of, shallow, reading_at, reading, by_rule, TellsBroken, GivesOrTells, ReadsOrTells, stops_in, stops_at, StopsWithin, TellsCase, TellsNoToml, TellsTooDeep, empty_plan}
 use Rattle.std.proofs.lemmas.Bool.{false≢true}
 use Rattle.camac_module.specs.Commands.{Commands, none_declared}
 use Rattle.camac_plan.specs.declared.command.CommandLine.{CommandLine}
@@ -311,12 +311,12 @@ module _ (bytes : List ℕ) (unit : Unit {0}) (flat : Ok unit ≡ shallow (too_d
   behind at = ap (λ (r : Result (Unit {0}) BrokenRule). next r (λ _. next (document_of at bytes) plan_of)) (sym flat)
 
   -- a text that is no TOML
-  pub untold : (r : Result Layout PlanFault) (e : PlanFault) → r ≡ Err e → Tells e (document_of (stops_at e) bytes) → ReadsOrTells r (reading bytes)
+  pub untold : (r : Result Layout PlanFault) (e : PlanFault) → r ≡ Err e → TellsBroken e (document_of (stops_at e) bytes) → ReadsOrTells r (reading bytes)
   untold r fault.OutOfMemory is h = rw is tt
   untold r (fault.Broken rule case) is h =
       rw is (sym (same_rule (stops_in case) bytes) ∙ by_rules _ _ (behind (stops_in case) ∙ next_plan _ _ plan_of h))
 
-  pub untold_case : (r : Result Layout PlanFault) (e : PlanFault) → r ≡ Err e → Tells e (document_of (stops_at e) bytes) → StopsWithin bytes e → IfErr r (TellsCase bytes)
+  pub untold_case : (r : Result Layout PlanFault) (e : PlanFault) → r ≡ Err e → TellsBroken e (document_of (stops_at e) bytes) → StopsWithin bytes e → IfErr r (TellsCase bytes)
   untold_case r fault.OutOfMemory is h within = rw is (tt, within)
   untold_case r (fault.Broken rule case) is h within = rw is (behind (stops_in case) ∙ next_plan _ _ plan_of h, within)
 

@@ -74,43 +74,43 @@ module _ (types crates : Items) where
   Goes (Err e) Q = Shown e.case
 
   -- Q holds of what is read; a record, so that its arguments are found
-  record Tells {A : Type 0} (r : Result A BrokenRule) (Q : A → Type 0) : Type 0 where
+  record ReadsOrShows {A : Type 0} (r : Result A BrokenRule) (Q : A → Type 0) : Type 0 where
     goes : Goes r Q
 
-  reads : {A : Type 0} {x : A} {Q : A → Type 0} → Q x → Tells (Ok x) Q
+  reads : {A : Type 0} {x : A} {Q : A → Type 0} → Q x → ReadsOrShows (Ok x) Q
   reads h = record { goes = h }
 
-  shows : {A : Type 0} {e : BrokenRule} {Q : A → Type 0} → Shown e.case → Tells (Err e) Q
+  shows : {A : Type 0} {e : BrokenRule} {Q : A → Type 0} → Shown e.case → ReadsOrShows (Err e) Q
   shows h = record { goes = h }
 
-  then_tells : {A B : Type 0} {r : Result A BrokenRule} {f : A → Result B BrokenRule} {P : A → Type 0} {Q : B → Type 0} → Tells r P → ((x : A) → P x → Tells (f x) Q) → Tells (next r f) Q
+  then_tells : {A B : Type 0} {r : Result A BrokenRule} {f : A → Result B BrokenRule} {P : A → Type 0} {Q : B → Type 0} → ReadsOrShows r P → ((x : A) → P x → ReadsOrShows (f x) Q) → ReadsOrShows (next r f) Q
   then_tells {r = Ok x} h k = k x h.goes
   then_tells {r = Err e} h k = record { goes = h.goes }
 
-  if_tells : {A : Type 0} (b : Bool) {r s : Result A BrokenRule} {Q : A → Type 0} → (b ≡ true → Tells r Q) → (b ≡ false → Tells s Q) → Tells (if b then r else s) Q
+  if_tells : {A : Type 0} (b : Bool) {r s : Result A BrokenRule} {Q : A → Type 0} → (b ≡ true → ReadsOrShows r Q) → (b ≡ false → ReadsOrShows s Q) → ReadsOrShows (if b then r else s) Q
   if_tells true h k = h refl
   if_tells false h k = k refl
 
   abbrev Any : {A : Type 0} → A → Type 0
   Any x = Unit {0}
 
-  anyway : {A : Type 0} {r : Result A BrokenRule} {P : A → Type 0} → Tells r P → Tells r Any
+  anyway : {A : Type 0} {r : Result A BrokenRule} {P : A → Type 0} → ReadsOrShows r P → ReadsOrShows r Any
   anyway {r = Ok x} h = record { goes = tt }
   anyway {r = Err e} h = record { goes = h.goes }
 
-  only_tells : (at : PlanTable) (ms : Members) → Tells (has_only at ms) Any
+  only_tells : (at : PlanTable) (ms : Members) → ReadsOrShows (has_only at ms) Any
   only_tells at ms = go (first_unknown (keys_of at) 0 ms)
     where
-      go : (o : Option ℕ) → Tells (none_unknown at o) Any
+      go : (o : Option ℕ) → ReadsOrShows (none_unknown at o) Any
       go None = reads tt
       go (Some n) = shows tt
 
-  needed : (at : PlanTable) (k : PlanKey) (low high : ℕ) (o : Option Data) → Tells (next (optional (number_in at k low high) o) (required at k (kind.Number low high))) (IsNumber low o)
+  needed : (at : PlanTable) (k : PlanKey) (low high : ℕ) (o : Option Data) → ReadsOrShows (next (optional (number_in at k low high) o) (required at k (kind.Number low high))) (IsNumber low o)
   needed at k low high None = shows tt
   needed at k low high (Some (integer (pos n))) = inside (nat_le low n && nat_le n high) refl
     where
       inside : (b : Bool) → (nat_le low n && nat_le n high) ≡ b
-          → Tells (next (next (if b then Ok n else Err (broken OutOfRange (case.Range at k (pos n) low high))) some) (required at k (kind.Number low high))) (IsNumber low (Some (integer (pos n))))
+          → ReadsOrShows (next (next (if b then Ok n else Err (broken OutOfRange (case.Range at k (pos n) low high))) some) (required at k (kind.Number low high))) (IsNumber low (Some (integer (pos n))))
       inside true e = reads (eq-eqb n n refl, leb-true low n (and_parts (nat_le low n) (nat_le n high) e).0)
       inside false e = shows tt
   needed at k low high (Some (integer (negsuc n))) = shows tt
@@ -121,11 +121,11 @@ module _ (types crates : Items) where
   needed at k low high (Some (array ds)) = shows tt
   needed at k low high (Some (table ts)) = shows tt
 
-  number_tells : (at : PlanTable) (k : PlanKey) (low high : ℕ) (o : Option Data) → Tells (optional (number_in at k low high) o) (IsMaybe o)
+  number_tells : (at : PlanTable) (k : PlanKey) (low high : ℕ) (o : Option Data) → ReadsOrShows (optional (number_in at k low high) o) (IsMaybe o)
   number_tells at k low high None = reads tt
   number_tells at k low high (Some (integer (pos n))) = inside (nat_le low n && nat_le n high)
     where
-      inside : (b : Bool) → Tells (next (if b then Ok n else Err (broken OutOfRange (case.Range at k (pos n) low high))) some) (IsMaybe (Some (integer (pos n))))
+      inside : (b : Bool) → ReadsOrShows (next (if b then Ok n else Err (broken OutOfRange (case.Range at k (pos n) low high))) some) (IsMaybe (Some (integer (pos n))))
       inside true = reads (eq-eqb n n refl)
       inside false = shows tt
   number_tells at k low high (Some (integer (negsuc n))) = shows tt
@@ -136,7 +136,7 @@ module _ (types crates : Items) where
   number_tells at k low high (Some (array ds)) = shows tt
   number_tells at k low high (Some (table ts)) = shows tt
 
-  flag_tells : (at : PlanTable) (k : PlanKey) (o : Option Data) → Tells (optional (flag_in at k) o) Any
+  flag_tells : (at : PlanTable) (k : PlanKey) (o : Option Data) → ReadsOrShows (optional (flag_in at k) o) Any
   flag_tells at k None = reads tt
   flag_tells at k (Some (integer n)) = shows tt
   flag_tells at k (Some (string s)) = shows tt
@@ -146,7 +146,7 @@ module _ (types crates : Items) where
   flag_tells at k (Some (array ds)) = shows tt
   flag_tells at k (Some (table ts)) = shows tt
 
-  text_tells : (at : PlanTable) (k : PlanKey) (o : Option Data) → Tells (next (required at k kind.Text o) (text_in at k)) (λ s. o ≡ Some (string s))
+  text_tells : (at : PlanTable) (k : PlanKey) (o : Option Data) → ReadsOrShows (next (required at k kind.Text o) (text_in at k)) (λ s. o ≡ Some (string s))
   text_tells at k None = shows tt
   text_tells at k (Some (integer n)) = shows tt
   text_tells at k (Some (string s)) = reads refl
@@ -156,7 +156,7 @@ module _ (types crates : Items) where
   text_tells at k (Some (array ds)) = shows tt
   text_tells at k (Some (table ts)) = shows tt
 
-  tables_tells : (at : PlanTable) (k : PlanKey) (o : Option Data) → Tells (tables_or_none at k o) (λ items. items ≡ array_in o)
+  tables_tells : (at : PlanTable) (k : PlanKey) (o : Option Data) → ReadsOrShows (tables_or_none at k o) (λ items. items ≡ array_in o)
   tables_tells at k None = reads refl
   tables_tells at k (Some (integer n)) = shows tt
   tables_tells at k (Some (string s)) = shows tt
@@ -166,11 +166,11 @@ module _ (types crates : Items) where
   tables_tells at k (Some (array ds)) = if_tells (are_tables ds) (λ e. reads refl) (λ e. shows tt)
   tables_tells at k (Some (table ts)) = shows tt
 
-  some_tables : (at : PlanTable) (k : PlanKey) (o : Option Data) → Tells (next (required at k kind.Tables o) (tables_in at k)) Any
+  some_tables : (at : PlanTable) (k : PlanKey) (o : Option Data) → ReadsOrShows (next (required at k kind.Tables o) (tables_in at k)) Any
   some_tables at k None = shows tt
   some_tables at k (Some d) = anyway (tables_tells at k (Some d))
 
-  station_tells : (at : PlanTable) (t : Members) → Tells (station_of at t) (IsStation t)
+  station_tells : (at : PlanTable) (t : Members) → ReadsOrShows (station_of at t) (IsStation t)
   station_tells at t =
       then_tells (only_tells at t) (λ u v.
       then_tells (needed at key.N 1 23 (value_at key.N t)) (λ n number.
@@ -178,7 +178,7 @@ module _ (types crates : Items) where
       then_tells (number_tells at key.Gl 1 24 (value_at key.Gl t)) (λ gl bit.
       reads (record { number = number; bit = bit })))))
 
-  crate_tells : (place : ℕ) (t : Members) → Tells (crate_of place t) (IsCrate place t)
+  crate_tells : (place : ℕ) (t : Members) → ReadsOrShows (crate_of place t) (IsCrate place t)
   crate_tells place t =
       then_tells (only_tells (Crate place) t) (λ u v.
       then_tells (needed (Crate place) key.Number 1 7 (value_at key.Number t)) (λ n number.
@@ -252,7 +252,7 @@ module _ (types crates : Items) where
     named : AreNamed 0 plan.types
     none : plan.crates ≡ no_crates
 
-  command_tells : (at : PlanTable) (t : Members) → Tells (command_of at t) Any
+  command_tells : (at : PlanTable) (t : Members) → ReadsOrShows (command_of at t) Any
   command_tells at t =
       then_tells (only_tells at t) (λ u v.
       then_tells (needed at key.F 0 31 (value_at key.F t)) (λ f p.
@@ -264,12 +264,12 @@ module _ (types crates : Items) where
       then_tells (then_tells (flag_tells at key.Clears (value_at key.Clears t)) (λ clears z.
       if_tells (unwrap_or probe false && unwrap_or clears false) {Q = Any} (λ e. shows tt) (λ e. reads tt))) (λ kind z. reads tt)))))))
 
-  places_tell : (all : TypeCommands) (n : ℕ) (line : CommandLine) (commands : Commands) (a k : ℕ) → Tells (with_places all n line commands a k) Any
+  places_tell : (all : TypeCommands) (n : ℕ) (line : CommandLine) (commands : Commands) (a k : ℕ) → ReadsOrShows (with_places all n line commands a k) Any
   places_tell all n line commands a zero = reads tt
   places_tell all n line commands a (suc k) =
       then_tells (if_tells (is_some (entry commands line.f a)) {Q = Any} (λ e. shows tt) (λ e. reads tt)) (λ more u. places_tell all n line more (a + 1) k)
 
-  commands_tell : (all : TypeCommands) (n : ℕ) (commands : Commands) (items : Items) → Tells (with_commands all n commands items) Any
+  commands_tell : (all : TypeCommands) (n : ℕ) (commands : Commands) (items : Items) → ReadsOrShows (with_commands all n commands items) Any
   commands_tell all n commands no_items = reads tt
   commands_tell all n commands (item (table t) rest) =
       then_tells (then_tells (command_tells (Command all.type_place n) t) (λ line u. places_tell all n line commands line.first (line.last + 1 - line.first)))
@@ -284,7 +284,7 @@ module _ (types crates : Items) where
   abbrev IsType : Members → TypeLine → Type 0
   IsType t line = value_at key.Name t ≡ Some (string line.name)
 
-  type_tells : (at : PlanTable) (t : Members) → Tells (type_of at t) (IsType t)
+  type_tells : (at : PlanTable) (t : Members) → ReadsOrShows (type_of at t) (IsType t)
   type_tells at t =
       then_tells (only_tells at t) (λ u v.
       then_tells (then_tells (text_tells at key.Name (value_at key.Name t)) (λ name is.
@@ -292,7 +292,7 @@ module _ (types crates : Items) where
       then_tells (some_tables at key.Commands (value_at key.Commands t)) (λ commands w. reads is)))
 
   line_tells : (plan : Layout) (t : Members) (line : TypeLine) → get_item (length plan.types) types ≡ Some (table t) → TypesSoFar plan → IsType t line
-      → Tells (with_type_line plan line) (λ p. TypesSoFar p × (length p.types ≡ length plan.types + 1))
+      → ReadsOrShows (with_type_line plan line) (λ p. TypesSoFar p × (length p.types ≡ length plan.types + 1))
   line_tells plan t line at so is =
       if_tells (is_some (type_named plan line.name)) (λ e. shows (go (type_named plan line.name) refl e))
       (λ e. then_tells (commands_tell (record { type_place = next_type plan; items = line.commands }) 0 (none_declared 16) line.commands)
@@ -313,7 +313,7 @@ module _ (types crates : Items) where
           let n = named_first line.name 0 plan.types m so.named f in
           (line.name, record { own = here; first = n.has; before = (let lt = n.below in omega arith); earlier = λ h lt has. n.earlier h (omega arith) lt has })
 
-  types_tell : (plan : Layout) (rest : Items) → AreRest types (length plan.types) rest → TypesSoFar plan → Tells (with_types plan rest) (λ p. p.crates ≡ no_crates)
+  types_tell : (plan : Layout) (rest : Items) → AreRest types (length plan.types) rest → TypesSoFar plan → ReadsOrShows (with_types plan rest) (λ p. p.crates ≡ no_crates)
   types_tell plan no_items are so = reads so.none
   types_tell plan (item (table t) rest) are so =
       then_tells (if_tells (nat_lt (next_type plan) 64)
@@ -396,7 +396,7 @@ module _ (types crates : Items) where
     same_bit b t (Some x) is e = subst (λ y. is_number y (value_at key.Gl t) ≡ true) (eqb-true x b e) is
 
     station_step : (n : ℕ) (plan : Layout) (t : Members) → get_item n k.stations ≡ Some (table t) → StationsSoFar n plan
-        → Tells (next (station_of (Station k.place n) t) (with_station crates k n plan)) (StationsSoFar (n + 1))
+        → ReadsOrShows (next (station_of (Station k.place n) t) (with_station crates k n plan)) (StationsSoFar (n + 1))
     station_step n plan t at_n so =
         then_tells (station_tells (Station k.place n) t) (λ s is.
         if_tells (is_some (installed plan k.number s.n)) (λ e. shows (station_twice_shown n plan t s.n at_n is.number.0 so e)) (λ e. typed s is (type_named plan s.type_name)))
@@ -415,7 +415,7 @@ module _ (types crates : Items) where
                   (bit_added plan k.number s.n new from b e);
             }
 
-        typed : (s : StationLine) → IsStation t s → (o : Option ℕ) → Tells (with_type_found crates k n plan s o) (StationsSoFar (n + 1))
+        typed : (s : StationLine) → IsStation t s → (o : Option ℕ) → ReadsOrShows (with_type_found crates k n plan s o) (StationsSoFar (n + 1))
         typed s is None = shows tt
         typed s is (Some x) = if_tells (is_some_and (uses_bit plan) s.gl) (λ e. shows (bit_shown n plan t s.gl at_n is.bit so e)) (λ e. reads (put s is x))
 
@@ -425,7 +425,7 @@ module _ (types crates : Items) where
       bits = λ b e. let h = so.bits b e in (h.0, h.1, ⊎_elim (λ lt. (let x : h.0 < k.place + 1 = omega arith in x)) (λ t. let same = t.0 in (let x : h.0 < k.place + 1 = omega arith in x)) h.2, h.3);
     }
 
-    stations_tell : (n : ℕ) (plan : Layout) (rest : Items) → AreRest k.stations n rest → StationsSoFar n plan → Tells (with_stations crates k n plan rest) (CratesSoFar (k.place + 1))
+    stations_tell : (n : ℕ) (plan : Layout) (rest : Items) → AreRest k.stations n rest → StationsSoFar n plan → ReadsOrShows (with_stations crates k n plan rest) (CratesSoFar (k.place + 1))
     stations_tell n plan no_items left so = reads (all_stations n plan so)
     stations_tell n plan (item (table t) rest) left so =
         then_tells (station_step n plan t (first_is k.stations n (table t) rest left) so) (λ p next_so. stations_tell (n + 1) p rest (others_are k.stations n (table t) rest left) next_so)
@@ -437,7 +437,7 @@ module _ (types crates : Items) where
     stations_tell n plan (item (array ds) rest) left so = shows tt
 
   crate_step : (plan : Layout) (t : Members) (k : CrateLine) → get_item k.place crates ≡ Some (table t) → IsNumber 1 (value_at key.Number t) k.number → k.stations ≡ stations_in (table t)
-      → CratesSoFar k.place plan → Tells (with_crate_line crates plan k) (CratesSoFar (k.place + 1))
+      → CratesSoFar k.place plan → ReadsOrShows (with_crate_line crates plan k) (CratesSoFar (k.place + 1))
   crate_step plan t k at is are so =
       if_tells (is_some (crate_at plan k.number)) (λ e. shows (twice e))
       (λ e. stations_tell k is.1 (table t) at are 0 (with_crate plan k.number k.waits) k.stations (λ i. let same : i ≡ 0 + i = omega arith in ap (λ m. get_item m k.stations) same) start)
@@ -467,11 +467,11 @@ module _ (types crates : Items) where
         bits = λ b e. let old = so.bits b (bit_of_added plan k.number k.waits b e) in (old.0, old.1, inl old.2, old.3);
       }
 
-  crates_tell : (c : ℕ) (plan : Layout) (rest : Items) → AreRest crates c rest → CratesSoFar c plan → Tells (with_crates crates c plan rest) Any
+  crates_tell : (c : ℕ) (plan : Layout) (rest : Items) → AreRest crates c rest → CratesSoFar c plan → ReadsOrShows (with_crates crates c plan rest) Any
   crates_tell c plan no_items left so = reads tt
   crates_tell c plan (item (table t) rest) left so =
       then_tells (then_tells (crate_tells c t) (λ k is.
-      subst (λ q. get_item q crates ≡ Some (table t) → CratesSoFar q plan → Tells (with_crate_line crates plan k) (CratesSoFar (q + 1))) is.at
+      subst (λ q. get_item q crates ≡ Some (table t) → CratesSoFar q plan → ReadsOrShows (with_crate_line crates plan k) (CratesSoFar (q + 1))) is.at
       (λ at old. crate_step plan t k at is.number is.stations old) (first_is crates c (table t) rest left) so))
       (λ p next_so. crates_tell (c + 1) p rest (others_are crates c (table t) rest left) next_so)
   crates_tell c plan (item (integer z) rest) left so = shows tt
@@ -487,14 +487,14 @@ module _ (types crates : Items) where
     bits = λ b e. absurd (false≢true (sym (ap (λ cs. list_any (crate_has_bit b) cs) none) ∙ e));
   }
 
-whole : (ms : Members) → Tells (items_at key.Types ms) (items_at key.Crates ms) (plan_of ms) (λ p. Unit {0})
+whole : (ms : Members) → ReadsOrShows (items_at key.Types ms) (items_at key.Crates ms) (plan_of ms) (λ p. Unit {0})
 whole ms =
     then_tells types crates (only_tells types crates Top ms) (λ u v.
     then_tells types crates (number_tells types crates Top key.Buffer 1 4096 (value_at key.Buffer ms)) (λ buffer b.
     then_tells types crates (tables_tells types crates Top key.Types (value_at key.Types ms)) (λ ts same_types.
     then_tells types crates (tables_tells types crates Top key.Crates (value_at key.Crates ms)) (λ cs same_crates.
-    subst (λ q. Tells types crates (next (with_types (empty_plan (unwrap_or buffer 4096)) q) (λ plan. with_crates cs 0 plan cs)) (λ p. Unit {0})) (sym same_types)
-    (subst (λ q. Tells types crates (next (with_types (empty_plan (unwrap_or buffer 4096)) types) (λ plan. with_crates q 0 plan q)) (λ p. Unit {0})) (sym same_crates)
+    subst (λ q. ReadsOrShows types crates (next (with_types (empty_plan (unwrap_or buffer 4096)) q) (λ plan. with_crates cs 0 plan cs)) (λ p. Unit {0})) (sym same_types)
+    (subst (λ q. ReadsOrShows types crates (next (with_types (empty_plan (unwrap_or buffer 4096)) types) (λ plan. with_crates q 0 plan q)) (λ p. Unit {0})) (sym same_crates)
     (then_tells types crates
     (types_tell types crates (empty_plan (unwrap_or buffer 4096)) types (λ i. let same : i ≡ 0 + i = omega arith in ap (λ m. get_item m types) same) (record { named = tt; none = refl }))
     (λ plan none. crates_tell types crates 0 plan crates (λ i. let same : i ≡ 0 + i = omega arith in ap (λ m. get_item m crates) same) (nothing_yet types crates plan none))))))))

@@ -66,19 +66,19 @@ abbrev pub TellsNoToml : List ℕ → Type 0
 TellsNoToml bytes = (reading bytes ≡ Err NotToml) ↔ (IsNone (too_deep bytes) × (IsUtf8 bytes → parse_document bytes ≡ None))
 
 -- a fault tells the broken rule and its case, unless memory ran out
-abbrev pub Tells : {A : Type 0} → PlanFault → Result A BrokenRule → Type 0
-Tells OutOfMemory r = ⊤
-Tells (Broken rule case) r = r ≡ Err (broken rule case)
+abbrev pub TellsBroken : {A : Type 0} → PlanFault → Result A BrokenRule → Type 0
+TellsBroken OutOfMemory r = ⊤
+TellsBroken (Broken rule case) r = r ≡ Err (broken rule case)
 
 -- the plan was changed to that of the reading, or the fault tells the broken rule
 abbrev pub AddsOrTells : {A : Type 0} → Result A PlanFault → Layout → Result Layout BrokenRule → Type 0
 AddsOrTells (Ok _) new r = r ≡ Ok new
-AddsOrTells (Err e) new r = Tells e r
+AddsOrTells (Err e) new r = TellsBroken e r
 
 -- the plan of the reading, or a fault that tells the broken rule
 abbrev pub GivesOrTells : Result Layout PlanFault → Result Layout BrokenRule → Type 0
 GivesOrTells (Ok p) r = r ≡ Ok p
-GivesOrTells (Err e) r = Tells e r
+GivesOrTells (Err e) r = TellsBroken e r
 
 -- the same, by the rule alone
 abbrev pub ReadsOrTells : Result Layout PlanFault → Result Layout PlanRule → Type 0
@@ -102,4 +102,4 @@ StopsWithin bytes (Broken rule case) = rule ≡ NotToml → stops_in case ≤ le
 
 -- a fault tells the case of the rule that the bytes break
 abbrev pub TellsCase : List ℕ → PlanFault → Type 0
-TellsCase bytes e = Tells e (reading_at (stops_at e) bytes) × StopsWithin bytes e
+TellsCase bytes e = TellsBroken e (reading_at (stops_at e) bytes) × StopsWithin bytes e

@@ -6,7 +6,7 @@ ghost use Rattle.camac_plan.specs.Field.{number_at, items_or_none};
 ghost use Rattle.camac_plan.specs.Types.{with_types};
 ghost use Rattle.camac_plan.specs.Crates.{with_crates};
 ghost use Rattle.camac_plan.specs.Nesting.{too_deep};
-ghost use Rattle.camac_plan.specs.Reading.{AddsOrTells, GivesOrTells, ReadsOrTells, TellsCase, Tells, plan_of, document_of, reading, shallow, stops_at, StopsWithin, TellsNoToml, TellsTooDeep};
+ghost use Rattle.camac_plan.specs.Reading.{AddsOrTells, GivesOrTells, ReadsOrTells, TellsCase, TellsBroken, plan_of, document_of, reading, shallow, stops_at, StopsWithin, TellsNoToml, TellsTooDeep};
 
 use crate::crates::add_crates;
 use crate::fault::{BrokenRule, PlanCase, PlanFault, PlanRule, PlanTable, broken};
@@ -47,7 +47,7 @@ fn is_shallow(bytes: &[u8]) -> Result<(), BrokenRule>
 // The table that a text says as TOML. Bytes that are not UTF-8 are no TOML.
 fn read_document(alloc: Global, bytes: &[u8]) -> Result<Table, PlanFault>
     ensures ok { IfOk result (λ t. (at : ℕ) → document_of at bytes.now ≡ Ok (table_view t)) }
-    ensures refused { IfErr result (λ e. Tells e (document_of (stops_at e) bytes.now)) }
+    ensures refused { IfErr result (λ e. TellsBroken e (document_of (stops_at e) bytes.now)) }
     ensures within { IfErr result (StopsWithin bytes.now) }
 {
     match toml::table_from_slice(alloc, bytes) {

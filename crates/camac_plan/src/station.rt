@@ -3,7 +3,7 @@
 ghost use Rattle.std.specs.Prelude.{◌≡◌, ◌≤◌, IfOk, IsSome, OnOk};
 ghost use Rattle.toml.specs.View.{view, array_view, table_view};
 ghost use Rattle.camac_branch.specs.Plan.{crate_at};
-ghost use Rattle.camac_plan.specs.declared.fault.PlanTable.TheVariants as place_of;
+ghost use Rattle.camac_plan.specs.declared.fault.PlanTable.TheVariants as at_table;
 ghost use Rattle.camac_plan.specs.Broken.{next};
 ghost use Rattle.camac_plan.specs.Field.{Changes, Reads, required_number_at, number_at, first_with};
 ghost use Rattle.camac_plan.specs.Crates.{crate_view, station_of, station_view, stations_in, first_with_bit, unknown_type, station_twice, bit_twice, with_station, with_stations};
@@ -30,7 +30,7 @@ pub(crate) struct StationLine<'a> {
 impl CrateLine<'_> {
     // The table of a station by its place.
     fn table(&self, place: usize) -> PlanTable
-        ensures { result ≡ place_of.Station self.now.place place }
+        ensures { result ≡ at_table.Station self.now.place place }
     {
         PlanTable::Station {
             crate_place: self.place,
@@ -70,7 +70,7 @@ fn add_station_table(
     table: &Table,
 ) -> Result<(), BrokenRule>
     requires { IsSome (crate_at plan.old k.now.number) }
-    ensures reads { Changes result plan.new (next (station_of (place_of.Station k.now.place place) (table_view table.now)) (with_station (array_view crates.now) (crate_view k.now) place plan.old)) }
+    ensures reads { Changes result plan.new (next (station_of (at_table.Station k.now.place place) (table_view table.now)) (with_station (array_view crates.now) (crate_view k.now) place plan.old)) }
     ensures still_there { OnOk result (IsSome (crate_at plan.new k.now.number)) }
 {
     match read_station(k.table(place), table) {

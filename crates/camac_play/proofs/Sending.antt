@@ -1,18 +1,16 @@
--- What is sent over two writers: texts, pieces of the run, and the event file from its beginning.
+-- What is sent over two writers: texts, pieces of the run, and what begins the event file.
 use Rattle.std.proofs.Common.{◌≡◌, ℕ, ◌<◌, List, [], ◌∷◌, ◌++◌, length, Option, Some, None, refl, sym, ap, subst, ◌∙◌, append_assoc, append-nil, length-append, arith, ◌+◌, map, Bool, true, false}
 use Rattle.std.proofs.KnownBytes.{Appends-trans, Appends-kept}
 use Rattle.std.proofs.lemmas.Bool.{ne_eqb}
-use Rattle.std.specs.Prelude.{Result, Ok, Err, MatchResult, IfSome, IfNone, unwrap_or, is_none}
+use Rattle.std.specs.Prelude.{Result, Ok, Err, MatchResult, IfSome, IfNone, unwrap_or}
 use Rattle.std.specs.Io.KnownBytes.{Appends, Keeps}
 use Rattle.camac_word.specs.Writing.{AppendsPrefix, Writes}
 use Rattle.camac_play.specs.Sent.{Sent, listed, recorded, to_listing, to_events, listing_of, events_of, Outputs, Sends, SendsPrefix, SendsLastPart}
-use Rattle.camac_play.specs.Told.{asked_text, item_line, line_of, record_text, number_after, piece_sent, pieces_sent, event_record, is_begun, begins_after, if_begun, called_for, report, open_text, whole_report, last_line}
+use Rattle.camac_play.specs.Told.{asked_text, item_line, line_of, record_text, number_after, piece_sent, pieces_sent, lines_sent, event_record, is_begun, begins_after, if_begun, called_for, report}
 use Rattle.camac_play.specs.declared.telling.Telling.{Telling}
 use Rattle.camac_play.specs.declared.telling.Telling.TheVariants.{Listing, Requests}
-use Rattle.camac_play.specs.Headline.{ReportSendsEventFile, PlayedSendsEventFile}
 use Rattle.camac_lang.specs.Tree.{Script}
-use Rattle.camac_model.specs.Behaviour.{Event, Piece, demanded, cycled, lock_taken, lock_released, event_left, event_in, events_in, uses, piece_uses, pieces}
-use Rattle.camac_model.specs.Run.{the_run}
+use Rattle.camac_model.specs.Behaviour.{Event, Piece, demanded, cycled, lock_taken, lock_released, event_left, event_in, events_in, uses, piece_uses}
 use Rattle.camac_report.specs.Items.{unlock_text, unlock_texts, request_text, live_text}
 use Rattle.camac_machine.specs.declared.item.Item.{Item}
 use Rattle.camac_machine.specs.declared.item.Item.TheVariants as item
@@ -21,10 +19,9 @@ use Rattle.camac_run.specs.Operation.{operation_of}
 use Rattle.camac_run.specs.declared.progress.Wanted.{Wanted}
 use Rattle.camac_run.specs.declared.progress.Wanted.TheVariants as wanted
 use Rattle.camac_run.specs.Holds.{event_pieces, told_after}
-use Rattle.camac_run.specs.Headline.{entry_of, event_file}
-use Rattle.camac_branch.specs.Branch.{Answer}
+use Rattle.camac_answer.specs.declared.given.Given.{Given}
 use Rattle.camac_branch.specs.Plan.{Layout}
-use Rattle.camac_event.specs.Spelling.{header, records_from}
+use Rattle.camac_event.specs.Spelling.{header}
 use Rattle.camac_event.specs.declared.event.Version.TheVariants.{Two}
 
 -- Texts one after another over two writers.
@@ -195,6 +192,21 @@ pieces_sent-append line n (p ∷ ps) qs =
     ap (λ (l : List Sent). sent ++ l) (pieces_sent-append line k ps qs ∙ ap (λ (j : ℕ). pieces_sent line k ps ++ pieces_sent line j qs) same)
     ∙ sym (append_assoc sent (pieces_sent line k ps) (pieces_sent line (n + count_of (p ∷ ps)) qs))
 
+no_record : (line : Piece → List ℕ) (n : ℕ) (p : Piece) → length (event_in p) ≡ 0 → piece_sent line n p ≡ to_listing (line p)
+no_record line n (demanded k v) e = append-nil (to_listing (line (demanded k v)))
+no_record line n (cycled at f d r w) e = append-nil (to_listing (line (cycled at f d r w)))
+no_record line n (lock_taken c w) e = append-nil (to_listing (line (lock_taken c w)))
+no_record line n (lock_released c) e = append-nil (to_listing (line (lock_released c)))
+no_record line n (event_left x) e = absurd (omega (arith, e))
+
+-- of pieces without an event the lines alone
+pub no_records : (line : Piece → List ℕ) (n : ℕ) (ps : List Piece) → count_of ps ≡ 0 → pieces_sent line n ps ≡ lines_sent line ps
+no_records line n [] e = refl
+no_records line n (p ∷ ps) e =
+    let sum = length-append (event_in p) (events_in ps) in
+    ap (λ (l : List Sent). l ++ pieces_sent line (number_after n p) ps) (no_record line n p (omega (arith, e, sum)))
+    ∙ ap (λ (l : List Sent). to_listing (line p) ++ l) (no_records line (number_after n p) ps (omega (arith, e, sum)))
+
 -- an item leaves no event
 quiet_record : (n : ℕ) (told : Item) → record_text n (piece_of told) ≡ []
 quiet_record n (item.Cycle d) = refl
@@ -319,12 +331,12 @@ first_due t = to_events (if_begun (is_begun t [] false) (header Two))
 abbrev pub due : Telling → ℕ → List Sent
 due t given = to_events (if_begun (begins_after t given) (header Two))
 
-pub begun_then : (t : Telling) (xs ys : List Answer) (a : Answer) (ended : Bool) → is_begun t (xs ++ a ∷ ys) ended ≡ true
+pub begun_then : (t : Telling) (xs ys : List Given) (a : Given) (ended : Bool) → is_begun t (xs ++ a ∷ ys) ended ≡ true
 begun_then Requests xs ys a ended = refl
 begun_then Listing [] ys a ended = refl
 begun_then Listing (x ∷ xs) ys a ended = refl
 
-pub begun_ended : (t : Telling) (xs : List Answer) → is_begun t xs true ≡ true
+pub begun_ended : (t : Telling) (xs : List Given) → is_begun t xs true ≡ true
 begun_ended Requests xs = refl
 begun_ended Listing [] = refl
 begun_ended Listing (x ∷ xs) = refl
@@ -335,17 +347,17 @@ nothing_asked Listing o is = refl
 nothing_asked Requests o is = cc
 
 -- what asks for the operation comes after all that was sent
-pub asked_after : (t : Telling) (taken : List Answer) (o : Wanted) (sent : List Sent)
+pub asked_after : (t : Telling) (taken : List Given) (o : Wanted) (sent : List Sent)
     → if_begun (is_begun t taken false) (start ++ (sent ++ to_listing (asked_text t o))) ≡ if_begun (is_begun t taken false) (start ++ sent) ++ to_listing (asked_text t o)
 asked_after Requests taken o sent = sym (append_assoc start sent (to_listing (asked_text Requests o)))
 asked_after Listing [] o sent = refl
 asked_after Listing (x ∷ taken) o sent = sym (append_assoc start sent [])
 
-not_due : (x : Answer) (xs : List Answer) → due Listing (length (x ∷ xs)) ≡ []
+not_due : (x : Given) (xs : List Given) → due Listing (length (x ∷ xs)) ≡ []
 not_due x xs = ap (λ (yes : Bool). to_events (if_begun yes (header Two))) (ne_eqb (length (x ∷ xs)) 0 (λ z. omega (arith, z)))
 
 -- the header comes before all else
-pub begins : (t : Telling) (taken : List Answer) (called : List Sent) → (t ≡ Listing → taken ≡ [] → called ≡ [])
+pub begins : (t : Telling) (taken : List Given) (called : List Sent) → (t ≡ Listing → taken ≡ [] → called ≡ [])
     → if_begun (is_begun t taken true) (start ++ called) ≡ if_begun (is_begun t taken false) (start ++ called) ++ due t (length taken)
 begins Requests taken called none = sym (append-nil (start ++ called))
 begins Listing [] called none = ap (λ (l : List Sent). start ++ l) (none refl refl) ∙ append-nil start
@@ -355,7 +367,7 @@ no_part : {T : Type 0} (c d : Outputs) → SendsPrefix c d [] → T
 no_part c d (prefix, rest, split, some, p) = absurd (omega (arith, some, ap length split, length-append prefix rest))
 
 -- a prefix of the header was written, which was due: nothing else was sent
-pub first_part : (t : Telling) (plan : Layout) (script : Script) (taken : List Answer) (a c d : Outputs) (whole tail : List Sent) → whole ≡ start ++ tail → Sends a c (report t plan script taken)
+pub first_part : (t : Telling) (plan : Layout) (script : Script) (taken : List Given) (a c d : Outputs) (whole tail : List Sent) → whole ≡ start ++ tail → Sends a c (report t plan script taken)
     → SendsPrefix c d (due t (length taken)) → SendsLastPart a d (report t plan script taken) whole
 first_part Requests plan script taken a c d whole tail e sends prefix = no_part c d prefix
 first_part Listing plan script [] a c d whole tail e sends prefix = last_part a c d [] (start ++ tail) whole sends (SendsPrefix-longer c d start tail prefix) e
@@ -365,45 +377,3 @@ first_part Listing plan script (x ∷ taken) a c d whole tail e sends prefix = n
 pub before_first : (t : Telling) (plan : Layout) (script : Script) (a b : Outputs) → SendsPrefix a b (first_due t) → SendsPrefix a b (report t plan script [])
 before_first Listing plan script a b prefix = no_part a b prefix
 before_first Requests plan script a b prefix = SendsPrefix-longer a b start (called_for Requests plan script []) prefix
-
--- What is sent to the event file is the spelling of the run's events.
-
-piece_records : (line : Piece → List ℕ) (n : ℕ) (p : Piece) → events_of (piece_sent line n p) ≡ record_text n p
-piece_records line' n p =
-    let line = line' p in
-    let bytes = record_text n p in
-    events_of-append (to_listing line) (to_events bytes) ∙ ap (λ (l : List ℕ). l ++ events_of (to_events bytes)) (events_listed line) ∙ events_recorded bytes
-
-record_first : (n : ℕ) (p : Piece) (ps : List Piece) → record_text n p ++ records_from (number_after n p) (map entry_of (events_in ps)) ≡ records_from n (map entry_of (events_in (p ∷ ps)))
-record_first n (demanded p v) ps = refl
-record_first n (cycled at f d r w) ps = refl
-record_first n (lock_taken c w) ps = refl
-record_first n (lock_released c) ps = refl
-record_first n (event_left e) ps = refl
-
-records_sent : (line : Piece → List ℕ) (n : ℕ) (ps : List Piece) → events_of (pieces_sent line n ps) ≡ records_from n (map entry_of (events_in ps))
-records_sent line n [] = refl
-records_sent line n (p ∷ ps) =
-    let rest = pieces_sent line (number_after n p) ps in
-    events_of-append (piece_sent line n p) rest
-    ∙ ap (λ (l : List ℕ). l ++ events_of rest) (piece_records line n p)
-    ∙ ap (λ (l : List ℕ). record_text n p ++ l) (records_sent line (number_after n p) ps)
-    ∙ record_first n p ps
-
--- a line adds nothing
-pub with_line : (sent : List Sent) (line : List ℕ) → events_of (sent ++ to_listing line) ≡ events_of sent
-with_line sent line = events_of-append sent (to_listing line) ∙ ap (λ (l : List ℕ). events_of sent ++ l) (events_listed line) ∙ append-nil (events_of sent)
-
-begun_file : (yes : Bool) (t : Telling) (plan : Layout) (script : Script) (answers : List Answer) → events_of (if_begun yes (to_events (header Two) ++ called_for t plan script answers)) ≡ if_begun yes (event_file plan script answers)
-begun_file false t plan script answers = refl
-begun_file true t plan script answers =
-    let ps = pieces (the_run plan script answers) in
-    events_of-append (to_events (header Two)) (called_for t plan script answers)
-    ∙ ap (λ (l : List ℕ). l ++ events_of (called_for t plan script answers)) (events_recorded (header Two))
-    ∙ ap (λ (l : List ℕ). header Two ++ l) (with_line (pieces_sent (line_of t script) 1 ps) (open_text t plan script answers) ∙ records_sent (line_of t script) 1 ps)
-
-pub report_file : ReportSendsEventFile
-report_file t plan script answers = begun_file (is_begun t answers false) t plan script answers
-
-pub played_file : PlayedSendsEventFile
-played_file t plan script r = with_line (whole_report t plan script r) (last_line plan script r) ∙ begun_file (is_begun t r.answers (is_none r.fault)) t plan script r.answers

@@ -3,3 +3,5 @@ pub mod Told
 pub mod Play
 pub mod Headline
 pub mod RunIo
+pub mod Abandoned
+pub mod Size

@@ -1,18 +1,22 @@
 -- What a run writes, to its listing or as requests and to its event file, in one order, from the script and the text of its answers.
-use Rattle.std.specs.Prelude.{ℕ, ◌+◌, Bool, true, false, List, [], ◌∷◌, ◌++◌, length, take, Option, Some, None, Result, is_none, nat_eq, option_map, unwrap_or}
+use Rattle.std.specs.Prelude.{ℕ, zero, suc, ◌+◌, Bool, true, false, List, [], ◌∷◌, ◌++◌, length, take, drop, Option, Some, None, Result, is_none, nat_eq, option_map, unwrap_or, if◌then◌else◌}
 use Rattle.camac_lang.specs.Tree.{Script}
 use Rattle.camac_branch.specs.Branch.{Answer}
 use Rattle.camac_branch.specs.Plan.{Layout}
 use Rattle.camac_event.specs.Spelling.{header, record_of}
 use Rattle.camac_event.specs.declared.event.Version.TheVariants.{Two}
-use Rattle.camac_model.specs.Behaviour.{Piece, event_left, Stop, short, overrun, pieces, stop_of, events, uses}
+use Rattle.camac_model.specs.Behaviour.{Piece, demanded, event_left, Stop, short, overrun, pieces, stop_of, events, events_in, uses}
+use Rattle.camac_model.specs.Laws.{is_short}
 use Rattle.camac_model.specs.Run.{the_run}
-use Rattle.camac_answer.specs.Reading.{Reading}
+use Rattle.camac_answer.specs.Reading.{Reading, broken, no_more, with_given}
 use Rattle.camac_answer.specs.declared.answers.TheConstants.{FILE_ANSWERS, LIVE_ANSWERS}
 use Rattle.camac_answer.specs.declared.fault.AnswerFault.{AnswerFault}
+use Rattle.camac_answer.specs.declared.fault.AnswerRule.TheVariants.{LineShape}
+use Rattle.camac_answer.specs.declared.given.Given.{Given}
+use Rattle.camac_answer.specs.declared.given.Given.TheVariants as gives
 use Rattle.camac_lines.specs.declared.refusal.Refusal.TheVariants as refusal
 use Rattle.camac_lines.specs.Refusal.{refusal_text}
-use Rattle.camac_report.specs.Items.{end_text, item_text, request_text, live_text}
+use Rattle.camac_report.specs.Items.{end_text, item_text, abandoned_text, request_text, live_text}
 use Rattle.camac_run.specs.Headline.{entry_of}
 use Rattle.camac_machine.specs.MachineState.{Left}
 use Rattle.camac_run.specs.Ends.{stop_in}
@@ -74,20 +78,120 @@ used_of plan script answers = take (uses (pieces (the_run plan script answers)))
 abbrev pub open_text : Telling → Layout → Script → List Answer → List ℕ
 open_text telling plan script answers = unwrap_or (option_map (asked_text telling) (wanted_after plan script (used_of plan script answers))) []
 
--- The pieces of the run on these answers, and the request that is open: all that they call for. Nothing in it is owed to an answer that is
--- yet to come.
-abbrev pub called_for : Telling → Layout → Script → List Answer → List Sent
-called_for telling plan script answers =
-    pieces_sent (line_of telling script) 1 (pieces (the_run plan script answers)) ++ to_listing (open_text telling plan script answers)
+-- The line `abandon` leaves the service in progress: the run goes on at the demand that called it, as if that and all answers since had not
+-- been. So the answers of a service that is left do not count.
+
+-- how many of the first n answers come before the service in progress: the most after which the run is at a graded-L operation
+abbrev pub count_before : Layout → Script → List Answer → ℕ → ℕ
+count_before plan script answers zero = 0
+count_before plan script answers (suc n) =
+    if is_none (stop_of (the_run plan script (take (suc n) answers))) then suc n else count_before plan script answers n
+
+abbrev pub before_service : Layout → Script → List Answer → List Answer
+before_service plan script answers = take (count_before plan script answers (length answers)) answers
+
+-- the service that is called, after a piece
+abbrev pub called_after : Option ℕ → Piece → Option ℕ
+called_after v (demanded pattern service) = service
+called_after v _ = v
+
+abbrev pub last_called : Option ℕ → List Piece → Option ℕ
+last_called v [] = v
+last_called v (p ∷ ps) = last_called (called_after v p) ps
+
+-- what is written of a service that is left: who was asked for its operations is told nothing
+abbrev pub left_line : Telling → Script → Option ℕ → List ℕ
+left_line Listing script service = abandoned_text script service
+left_line Requests script service = []
+
+-- the lines alone of pieces: a service that is left leaves no event
+abbrev pub lines_sent : (Piece → List ℕ) → List Piece → List Sent
+lines_sent line [] = []
+lines_sent line (p ∷ ps) = to_listing (line p) ++ lines_sent line ps
+
+-- what is sent of the run on these answers after the pieces before
+abbrev pub sent_after : (Piece → List ℕ) → List Piece → Layout → Script → List Answer → List Sent
+sent_after line before plan script answers =
+    pieces_sent line (1 + length (events_in before)) (drop (length before) (pieces (the_run plan script answers)))
+
+-- what is sent of the service in progress, which so many pieces come before, where it is left: its lines, the request that is open, and its name
+abbrev pub left_sent : Telling → Layout → Script → List Answer → ℕ → List Sent
+left_sent telling plan script answers n =
+    lines_sent (line_of telling script) (drop n (pieces (the_run plan script answers)))
+    ++ to_listing (open_text telling plan script answers ++ left_line telling script (last_called None (pieces (the_run plan script answers))))
+
+-- What the lines of a text come to
+pub record Counted : Type 0 where
+  -- the answers that count
+  pub answers : List Answer
+  -- the pieces of the run before the service that was left last, and what was sent up to its name
+  pub before : List Piece
+  pub sent : List Sent
+
+abbrev pub none_counted : Counted
+none_counted = record { answers = []; before = []; sent = [] }
+
+-- the run is at the demand after these answers again
+abbrev pub back_to : Telling → Layout → Script → Counted → List Answer → Counted
+back_to telling plan script c answers = record {
+  answers = answers;
+  before = pieces (the_run plan script answers);
+  sent = c.sent
+      ++ (sent_after (line_of telling script) c.before plan script answers
+      ++ left_sent telling plan script c.answers (length (pieces (the_run plan script answers))));
+}
+
+abbrev pub then_given : Telling → Layout → Script → Counted → Given → Counted
+then_given telling plan script c (gives.Answer a) = record c { answers = c.answers ++ a ∷ [] }
+then_given telling plan script c gives.Abandon = back_to telling plan script c (before_service plan script c.answers)
+
+abbrev pub counted_from : Telling → Layout → Script → Counted → List Given → Counted
+counted_from telling plan script c [] = c
+counted_from telling plan script c (g ∷ gs) = counted_from telling plan script (then_given telling plan script c g) gs
+
+abbrev pub counted : Telling → Layout → Script → List Given → Counted
+counted telling plan script gs = counted_from telling plan script none_counted gs
+
+abbrev pub that_count : Telling → Layout → Script → List Given → List Answer
+that_count telling plan script gs = (counted telling plan script gs).answers
+
+-- a run is short inside a service
+abbrev pub is_inside : Option Stop → Bool
+is_inside None = false
+is_inside (Some w) = is_short w
+
+-- whether a run takes what a line gives: there `abandon`, elsewhere an answer alone
+abbrev pub takes : Layout → Script → Counted → Given → Bool
+takes plan script c (gives.Answer a) = true
+takes plan script c gives.Abandon = is_inside (stop_of (the_run plan script c.answers))
+
+-- what it takes of a text after n lines: what it does not take has not the shape of a line
+abbrev pub taken_from : Telling → Layout → Script → Counted → ℕ → List Given → Option AnswerFault → Reading
+taken_from telling plan script c n [] fault = no_more fault
+taken_from telling plan script c n (g ∷ gs) fault =
+    if takes plan script c g then with_given g (taken_from telling plan script (then_given telling plan script c g) (n + 1) gs fault)
+    else no_more (Some (broken LineShape (n + 1)))
+
+abbrev pub taken_of : Telling → Layout → Script → Reading → Reading
+taken_of telling plan script r = taken_from telling plan script none_counted 0 r.given r.fault
+
+-- The pieces of the run on these lines, and the request that is open: all that they call for. Nothing in it is owed to a line that is yet to
+-- come.
+abbrev pub called_by : Telling → Layout → Script → Counted → List Sent
+called_by telling plan script c =
+    c.sent ++ (sent_after (line_of telling script) c.before plan script c.answers ++ to_listing (open_text telling plan script c.answers))
+
+abbrev pub called_for : Telling → Layout → Script → List Given → List Sent
+called_for telling plan script gs = called_by telling plan script (counted telling plan script gs)
 
 -- Whether the event file is begun: that of a live run before its first request, that of a listing once its first answer is good or the
 -- answers have ended.
-abbrev pub is_begun : Telling → List Answer → (ended : Bool) → Bool
-is_begun Requests answers ended = true
+abbrev pub is_begun : Telling → List Given → (ended : Bool) → Bool
+is_begun Requests gs ended = true
 is_begun Listing [] ended = ended
-is_begun Listing (first ∷ answers) ended = true
+is_begun Listing (first ∷ gs) ended = true
 
--- it is begun after so many answers
+-- it is begun after so many lines
 abbrev pub begins_after : Telling → (given : ℕ) → Bool
 begins_after Listing given = nat_eq given 0
 begins_after Requests given = false
@@ -98,16 +202,16 @@ if_begun true sent = sent
 if_begun false sent = []
 
 -- the same after the header, which begins the event file: before that nothing is sent
-abbrev pub report_by : (ended : Bool) → Telling → Layout → Script → List Answer → List Sent
-report_by ended telling plan script answers = if_begun (is_begun telling answers ended) (to_events (header Two) ++ called_for telling plan script answers)
+abbrev pub report_by : (ended : Bool) → Telling → Layout → Script → List Given → List Sent
+report_by ended telling plan script gs = if_begun (is_begun telling gs ended) (to_events (header Two) ++ called_for telling plan script gs)
 
--- where more answers may come
-abbrev pub report : Telling → Layout → Script → List Answer → List Sent
+-- where more lines may come
+abbrev pub report : Telling → Layout → Script → List Given → List Sent
 report = report_by false
 
--- of the whole text of the answers, which ends after a good one or has a fault
+-- of all that a run takes of a text, which ends after a good line or has a fault
 abbrev pub whole_report : Telling → Layout → Script → Reading → List Sent
-whole_report telling plan script r = report_by (is_none r.fault) telling plan script r.answers
+whole_report telling plan script r = report_by (is_none r.fault) telling plan script r.given
 
 -- How a run ends, by why it stopped and what is wrong with the text of its answers. Such a fault counts only where the run comes to
 -- the end of the answers. A run of a checked script stops for no other reasons.
@@ -122,15 +226,16 @@ abbrev pub ending_text : Ending → ℕ → List ℕ
 ending_text (how.End e) n = end_text (stop_in e) n
 ending_text (how.Refused f) n = refusal_text (refusal.Answer f.rule f.line)
 
-abbrev pub ending : Layout → Script → Reading → Ending
-ending plan script r = ending_of (stop_of (the_run plan script r.answers)) r.fault
+abbrev pub ending : Telling → Layout → Script → Reading → Ending
+ending telling plan script r = ending_of (stop_of (the_run plan script (that_count telling plan script r.given))) r.fault
 
-abbrev pub last_line : Layout → Script → Reading → List ℕ
-last_line plan script r = ending_text (ending plan script r) (length (events (the_run plan script r.answers)))
+abbrev pub last_line : Telling → Layout → Script → Reading → List ℕ
+last_line telling plan script r =
+    ending_text (ending telling plan script r) (length (events (the_run plan script (that_count telling plan script r.given))))
 
 -- all that a run writes: what it tells, and its last line
 abbrev pub played : Telling → Layout → Script → Reading → List Sent
-played telling plan script r = whole_report telling plan script r ++ to_listing (last_line plan script r)
+played telling plan script r = whole_report telling plan script r ++ to_listing (last_line telling plan script r)
 
 -- the record of the event that a service left, where one was left
 abbrev pub event_record : Option Left → List ℕ → List ℕ

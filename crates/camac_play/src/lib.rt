@@ -13,7 +13,7 @@ mod telling;
 
 pub use ending::Ending;
 pub use fault::PlayFault;
-pub use laws::event_file_is_sent;
+pub use laws::{abandoned_services_are_left, event_file_is_sent, sizes_are_of_statements};
 pub use playing::play_over;
 pub use run_io::{Borrowed, RunIo};
 pub use telling::Telling;

@@ -13,7 +13,7 @@ use crate::fault::PlayFault;
 use crate::feeding::feed;
 use crate::run_io::RunIo;
 use crate::telling::{Telling, close};
-use camac_checked::Checked;
+use camac_rules::Checked;
 use camac_run::{requests_are_safe, runs_by_headline};
 
 /// Runs a checked script on the answers of a text: by `telling`, a listing or requests are listed, and the event file is recorded. That of a

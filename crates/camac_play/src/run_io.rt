@@ -3,7 +3,7 @@
 ghost use Rattle.std.specs.Prelude.{◌≡◌, ◌≤◌, ◌<◌, ◌||◌, ◌++◌, ◌∷◌, [], true, false, length, take, is_err, IfOk};
 ghost use Rattle.std.specs.Io.KnownBytes.{Consumes, IsAtEnd};
 ghost use Rattle.camac_answer.specs.Answers.{IsOpen};
-ghost use Rattle.camac_answer.specs.Lines.{first_line};
+ghost use Rattle.camac_answer.specs.Lines.{first_line, IsNoMore};
 ghost use Rattle.camac_event.specs.Spelling.{header, record_of};
 ghost use Rattle.camac_event.specs.declared.event.Version.TheVariants.{Two};
 ghost use Rattle.camac_report.specs.Items.{item_text, unlock_texts};
@@ -15,9 +15,9 @@ ghost use Rattle.camac_word.specs.Writing.{Writes};
 
 use crate::fault::PlayFault;
 use camac_answer::fill;
-use camac_checked::Checked;
 use camac_event::{Usage, write_header, write_record};
 use camac_report::{Line, write_items};
+use camac_rules::Checked;
 use camac_run::Item;
 use camac_word::{CrateNo, GlBit, Watched, Word24, WriteFault};
 use std::io::{Read, Write};
@@ -27,12 +27,13 @@ pub trait RunIo {
     ghost state: { Self → RunState };
 
     /// Fills the line with so many bytes as it has, or those up to the piece that has an LF, or all that are left, and tells how many they
-    /// are. Of what is held all is handed on before an answer is waited for; a write fault is one in that, and then nothing was read.
+    /// are; of what follows the line `abandon` nothing. Of what is held all is handed on before an answer is waited for; a write fault is one in that, and then nothing was read.
     fn read_line(&mut self, line: &mut [u8]) -> Result<usize, PlayFault>
         ensures within { IfOk result (λ n. n ≤ length line.old) }
         ensures len { length line.new ≡ length line.old }
         ensures bytes { IfOk result (λ n. Consumes (state self.old).remaining (state self.new).remaining (take n line.new)) }
         ensures short { IfOk result (λ n. n < length line.old → n ≤ length (first_line (take n line.new)) → IsAtEnd (state self.new).remaining) }
+        ensures no_more { IfOk result (λ n. IsNoMore line.new n) }
         ensures open { is_read_fault result ≡ true → IsOpen (length line.old) (state self.old).remaining (state self.new).remaining }
         ensures unread { is_write_fault result ≡ true → (state self.new).remaining ≡ (state self.old).remaining }
         ensures holding { is_write_fault result ≡ true → (state self.old).gathers ≡ true }

@@ -6,18 +6,19 @@ ghost use Rattle.camac_event.specs.declared.event.Version.TheVariants.{Two};
 ghost use Rattle.camac_report.specs.Items.{unlock_texts};
 ghost use Rattle.camac_machine.specs.MachineState.{piece_of};
 ghost use Rattle.camac_machine.specs.Rest.{is_paused};
+ghost use Rattle.camac_run.specs.Runner.{last_words_in};
 ghost use Rattle.camac_play.specs.RunIo.{OnlyLists, OnlyRecords};
-ghost use Rattle.camac_play.specs.Told.{most_answers, is_begun, begins_after, if_begun, item_line, ending_text, Asks, event_record};
+ghost use Rattle.camac_play.specs.Told.{most_answers, is_begun, begins_after, if_begun, item_line, called_after, left_line, ending_text, Asks, event_record};
 ghost use Rattle.camac_word.specs.Writing.{Writes};
 
 use crate::ending::Ending;
 use crate::run_io::RunIo;
 use camac_answer::{FILE_ANSWERS, LIVE_ANSWERS};
-use camac_checked::Checked;
 use camac_event::Usage;
-use camac_report::{Refusal, end_line, refusal_line, request_line, unlocks_line};
+use camac_report::{Refusal, abandoned_line, end_line, refusal_line, request_line, unlocks_line};
+use camac_rules::Checked;
 use camac_run::{FullRunner, Item};
-use camac_word::{CrateNo, GlBit, Word24, WriteFault};
+use camac_word::{CrateNo, GlBit, WriteFault};
 
 /// How a run tells what it does (own).
 #[derive(Clone, Copy, Debug, PartialEq, Eq)]
@@ -29,7 +30,7 @@ pub enum Telling {
 }
 
 impl Telling {
-    /// How many answers a run takes at most: those of an answer file, or of a live run.
+    /// How many lines of answers a run takes at most: those of an answer file, or of a live run.
     pub fn most_answers(self) -> u32
         ensures { result ≡ most_answers self }
     {
@@ -49,7 +50,7 @@ impl Telling {
         }
     }
 
-    /// Whether it is begun where so many answers were given and the next one is good or there is none.
+    /// Whether it is begun where so many lines were given and the next one is good or there is none.
     pub fn begins_after(self, given: u32) -> bool
         ensures { result ≡ begins_after self given }
     {
@@ -113,19 +114,48 @@ pub fn tell<I: RunIo>(
     }
 }
 
-/// Writes the record of the event that a service left, where one was left.
+/// Keeps the service that is called, after an item.
+#[inline(always)]
+pub fn keep_called(called: &mut Option<usize>, item: &Item)
+    ensures { called.new ≡ called_after called.old (piece_of item.now) }
+{
+    match item {
+        Item::Demand(_, service) => *called = *service,
+        Item::Cycle(_) => (),
+        Item::Lock(_, _) => (),
+        Item::Unlock(_) => (),
+    }
+}
+
+/// Writes that this service is left: in a listing a line. It is no part of the loop, which would have the place of the service's name at hand for each answer.
+#[inline(never)]
+pub fn tell_left<I: RunIo>(
+    telling: Telling,
+    checked: &Checked,
+    called: &Option<usize>,
+    io: &mut I,
+) -> Result<(), WriteFault>
+    ensures text { Writes (I.state io.old).listed (I.state io.new).listed result (left_line telling checked.now.script called.now) }
+    ensures only { OnlyLists (I.state io.old) (I.state io.new) (is_err result) }
+{
+    match telling {
+        Telling::Listing => io.list_line(&abandoned_line(checked.script(), *called)),
+        Telling::Requests => Ok(()),
+    }
+}
+
+/// Writes the record of the event that a service left, where one was left. Its words are looked for only then.
 pub fn write_event<I: RunIo>(
     io: &mut I,
     event: &Option<Left>,
-    words: &[Word24],
+    runner: &FullRunner<'_>,
 ) -> Result<(), WriteFault>
-    requires words { length words.now ≤ 4096 }
     requires usage { IfSome event.now (λ e. e.2.missed ≤ e.2.cycles) }
-    ensures text { Writes (I.state io.old).recorded (I.state io.new).recorded result (event_record event.now words.now) }
+    ensures text { Writes (I.state io.old).recorded (I.state io.new).recorded result (event_record event.now (last_words_in runner.now)) }
     ensures only { OnlyRecords (I.state io.old) (I.state io.new) (is_err result) }
 {
     match event {
-        Some((number, bit, usage)) => io.record_event(*number, *bit, *usage, words),
+        Some((number, bit, usage)) => io.record_event(*number, *bit, *usage, runner.last_words()),
         None => Ok(()),
     }
 }

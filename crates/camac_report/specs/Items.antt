@@ -33,6 +33,10 @@ lock_text crate_no wait = codes "lock " ++ decimal crate_no ++ codes " wait " ++
 abbrev pub unlock_text : ℕ → List ℕ
 unlock_text crate_no = codes "unlock " ++ decimal crate_no ++ codes "\n"
 
+-- `abandoned service SERVICE`, of one that was left
+abbrev pub abandoned_text : Script → Option ℕ → List ℕ
+abandoned_text script service = codes "abandoned service " ++ called_text script service ++ codes "\n"
+
 -- the line of a piece of a run; an event has none, it goes to the event file
 abbrev pub item_text : Script → Piece → List ℕ
 item_text script (demanded pattern service) = demand_text script pattern service

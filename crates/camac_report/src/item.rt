@@ -1,14 +1,14 @@
 // The lines of the items of a run.
 
 ghost use Rattle.std.specs.Prelude.{◌≡◌, ◌≤◌, ◌+◌, ◌*◌, ◌||◌, ◌++◌, length, take, is_err};
-ghost use Rattle.camac_report.specs.Items.{service_name, called_text, demand_text, lock_text, unlock_text, unlock_texts, item_text};
+ghost use Rattle.camac_report.specs.Items.{service_name, called_text, demand_text, abandoned_text, lock_text, unlock_text, unlock_texts, item_text};
 ghost use Rattle.camac_machine.specs.MachineState.{piece_of};
 ghost use Rattle.camac_word.specs.Watched.{inner_of, has_failed};
 ghost use Rattle.camac_word.specs.Writing.{Writes};
 
-use camac_checked::Checked;
 use camac_lang::Script;
-use camac_lines::{LONGEST_LINE, bytes_in, cycle_in, hex_word, lam_name, small_in, text_in};
+use camac_lines::{LONGEST_LINE, Line, bytes_in, cycle_in, hex_word, lam_name, small_in, text_in};
+use camac_rules::Checked;
 use camac_run::Item;
 use camac_word::{CrateNo, Watched, Word24, WriteFault};
 use std::io::Write;
@@ -82,6 +82,17 @@ fn demand_in(
     let name = text_in(bytes, space, " ");
     let end = bytes_in(bytes, name, called_name(script, service));
     text_in(bytes, end, "\n")
+}
+
+/// The line of a service that was left.
+pub fn abandoned_line(script: &Script, service: Option<usize>) -> Line
+    ensures { result ≡ abandoned_text script.now service }
+{
+    let mut line = Line::new();
+    line.push_str("abandoned service ");
+    line.push_bytes(called_name(script, service));
+    line.push_str("\n");
+    line
 }
 
 // The name of the service that is called.

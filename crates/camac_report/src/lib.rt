@@ -11,5 +11,5 @@ pub use camac_lines::{
     write_plan, write_plan_with_commands, write_refusal, write_verdict,
 };
 pub use end::end_line;
-pub use item::{items_in, write_items};
+pub use item::{abandoned_line, items_in, write_items};
 pub use request::{request_line, unlocks_line};

@@ -515,5 +515,5 @@ unfolding DecidedServe ServicesServe
 decided_serve plan is_plan script ks ts are g decided =
     services_serve plan is_plan script ks ts are (plan_clears plan) g (λ i v at.
     let d = decided i v at in
-    harmless_serve plan script ts (plan_clears plan) g i v d.lam d.its d.clears (λ b answers.
+    harmless_serve plan script ts (plan_clears plan) g i v d.lam d.lam_is d.clears (λ b answers.
     harmless_all plan is_plan script ts g i d.commands d.careful (service_meaning (context plan script) 65535 v b answers) (d.makes b answers)))

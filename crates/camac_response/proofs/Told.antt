@@ -34,7 +34,7 @@ use Rattle.camac_response.specs.declared.unkept.Why.TheVariants.{NotCleared, Cle
 use Rattle.camac_response.specs.Lams.{plan_clears, clears, lams_of, of_lam}
 use Rattle.camac_response.specs.Laws.{AreSources, AnswersInTime, LookAtMesAreAnswered, LowestAreCalled, StretchesEnd}
 use Rattle.camac_response.specs.Reach.{could_clear, could_hide, must_clear, clears_lam, IsDecided, DecidedServe}
-use Rattle.camac_response.specs.Unkept.{rank_of, told, not_cleared, of_other, told_cleared, told_hidden, told_if, told_from, unkept_of, is_kept_to, lines_of, with_line, lesser, least_line, first_made, first_block, first_in}
+use Rattle.camac_response.specs.Unkept.{rank_of, with_unkept_at, not_cleared, of_other, told_cleared, told_hidden, told_if, told_from, unkept_of, is_kept_to, lines_of, with_line, lesser, least_line, first_made, first_block, first_in}
 use Rattle.camac_response.specs.declared.least.Question.TheVariants.{Clears, Hides}
 use Rattle.camac_response.specs.Checked.{IsTold, AreTold, CheckedRespond}
 use Rattle.camac_response.proofs.Lams.{or_false, same_at, lowest_are_called}
@@ -46,7 +46,7 @@ use Rattle.camac_names.specs.Link.{lam_bit, service_bit as link_bit}
 use Rattle.camac_names.specs.Linked.{IsLinked}
 use Rattle.camac_names.specs.OwnBits.{HasOwnBits}
 use Rattle.camac_names.proofs.OwnBits.{linked_have_own_bits}
-use Rattle.camac_checked.specs.Checked.{CheckedScript, linked_of}
+use Rattle.camac_rules.specs.Checked.{CheckedScript, linked_of}
 
 -- Where nothing is told of look-at-mes up to a bit, the script does its part for them.
 
@@ -181,7 +181,7 @@ module _ (g : ℕ) where
   abbrev NoneUp : List Unkept → Type 0
   NoneUp us = list_any up us ≡ false
 
-  told_split : (bit j : ℕ) (why : Why) (o : Option ℕ) (us : List Unkept) → NoneUp (told bit j why o us) → (nat_le bit g ≡ true → o ≡ None) × NoneUp us
+  told_split : (bit j : ℕ) (why : Why) (o : Option ℕ) (us : List Unkept) → NoneUp (with_unkept_at bit j why o us) → (nat_le bit g ≡ true → o ≡ None) × NoneUp us
   told_split bit j why None us e = (λ low. refl, e)
   told_split bit j why (Some line) us e =
       let u : Unkept = record { bit = bit; service = j; line = line; why = why } in
@@ -192,7 +192,7 @@ module _ (g : ℕ) where
       → (nat_le bit g ≡ true → (k : ℕ) (o : Option ℕ) → slice_get lines k ≡ Some o → of_other j (i + k) o ≡ None) × NoneUp us
   cleared_split bit j i [] us e = (λ low k o at. absurd (cc), e)
   cleared_split bit j i (line ∷ rest) us e =
-      let later = cleared_split bit j (i + 1) rest (told bit j (ClearedBy i) (of_other j i line) us) e in
+      let later = cleared_split bit j (i + 1) rest (with_unkept_at bit j (ClearedBy i) (of_other j i line) us) e in
       let here = told_split bit j (ClearedBy i) (of_other j i line) us later.1 in
       (λ low. go low (here.0 low) (later.0 low), here.1)
     where
@@ -210,7 +210,7 @@ module _ (g : ℕ) where
       → (nat_le bit g ≡ true → (k : ℕ) (o : Option ℕ) → slice_get lines k ≡ Some o → o ≡ None) × NoneUp us
   hidden_split bit j i [] us e = (λ low k o at. absurd (cc), e)
   hidden_split bit j i (line ∷ rest) us e =
-      let later = hidden_split bit j (i + 1) rest (told bit j (HiddenBy i) line us) e in
+      let later = hidden_split bit j (i + 1) rest (with_unkept_at bit j (HiddenBy i) line us) e in
       let here = told_split bit j (HiddenBy i) line us later.1 in
       (λ low. go (here.0 low) (later.0 low), here.1)
     where
@@ -231,8 +231,8 @@ module _ (g : ℕ) where
     of_split bit j None o us e = (λ low lam v at its. absurd (cc), e)
     of_split bit j (Some v) None us e = (λ low lam' v' at its. absurd (cc), e)
     of_split bit j (Some v) (Some lam) us e =
-        let hidden = hidden_split bit j 0 (lines_of plan script bodies Hides lam) (told_cleared bit j 0 (lines_of plan script bodies Clears lam) (told bit j NotCleared (not_cleared plan script bodies lam j v) us)) e in
-        let cleared = cleared_split bit j 0 (lines_of plan script bodies Clears lam) (told bit j NotCleared (not_cleared plan script bodies lam j v) us) hidden.1 in
+        let hidden = hidden_split bit j 0 (lines_of plan script bodies Hides lam) (told_cleared bit j 0 (lines_of plan script bodies Clears lam) (with_unkept_at bit j NotCleared (not_cleared plan script bodies lam j v) us)) e in
+        let cleared = cleared_split bit j 0 (lines_of plan script bodies Clears lam) (with_unkept_at bit j NotCleared (not_cleared plan script bodies lam j v) us) hidden.1 in
         let own = told_split bit j NotCleared (not_cleared plan script bodies lam j v) us cleared.1 in (
           λ low lam' v' at its.
               subst (λ l. IsKept j l v') (same_Some lam lam' at)
@@ -303,7 +303,7 @@ module _ (plan : Layout) (is_plan : IsPlan plan) (script : Script) (formed : IsT
       record {
         commands = cs;
         lam = found.0;
-        its = its;
+        lam_is = its;
         makes = cycles_are_listed plan is_plan script ks formed accepted i v cs at listed;
         careful = record {
           clear_no_other = λ j t at_t low other. none_of (lams_of script j) _ (λ lam its_lam. (

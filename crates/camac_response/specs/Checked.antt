@@ -15,7 +15,7 @@ use Rattle.camac_branch.specs.Plan.{IsPlan}
 use Rattle.camac_model.specs.Run.{the_run}
 use Rattle.camac_model.specs.Moments.{Holds}
 use Rattle.camac_names.specs.Linked.{IsLinked, bit_of_service}
-use Rattle.camac_checked.specs.Checked.{CheckedScript, linked_of, IsChecked}
+use Rattle.camac_rules.specs.Checked.{CheckedScript, linked_of, IsChecked}
 use Rattle.camac_response_times.specs.declared.source.Source.{Source}
 use Rattle.camac_response_times.specs.Rounds.{longest, response}
 use Rattle.camac_model.specs.Headline.{nothing}

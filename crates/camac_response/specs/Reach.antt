@@ -125,7 +125,7 @@ pub record AreCareful (plan : Layout) (script : Script) (ts : List Source) (g i 
 pub record IsDecided (plan : Layout) (script : Script) (ts : List Source) (g i : ℕ) (v : Service) : Type 0 where
   pub commands : List Command
   pub lam : Address
-  pub its : lams_of script i ≡ Some lam
+  pub lam_is : lams_of script i ≡ Some lam
   pub makes : MakesOnly plan script v commands
   pub careful : AreCareful plan script ts g i commands
   pub clears : (t : Source) → slice_get ts i ≡ Some t → is_up_to g t ≡ true → MakesOne plan script v (clears (plan_clears plan) lam)

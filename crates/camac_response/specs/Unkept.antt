@@ -79,9 +79,9 @@ abbrev pub with_unkept : Unkept → List Unkept → List Unkept
 with_unkept u us = insert us (rank_of u.bit u.line us) u
 
 -- one on a line, if there is one
-abbrev pub told : (bit service : ℕ) → Why → (line : Option ℕ) → List Unkept → List Unkept
-told bit j why None us = us
-told bit j why (Some line) us = with_unkept (record { bit = bit; service = j; line = line; why = why }) us
+abbrev pub with_unkept_at : (bit service : ℕ) → Why → (line : Option ℕ) → List Unkept → List Unkept
+with_unkept_at bit j why None us = us
+with_unkept_at bit j why (Some line) us = with_unkept (record { bit = bit; service = j; line = line; why = why }) us
 
 -- The look-at-me of service number j, whose address and bit are these. Its service does not clear it on every way: the line of its heading
 abbrev pub not_cleared : Layout → Script → List BodyRows → Address → (j : ℕ) → Service → Option ℕ
@@ -93,18 +93,18 @@ of_other j i line = if nat_eq i j then None else line
 
 abbrev pub told_cleared : (bit j : ℕ) → ℕ → List (Option ℕ) → List Unkept → List Unkept
 told_cleared bit j i [] us = us
-told_cleared bit j i (line ∷ rest) us = told_cleared bit j (i + 1) rest (told bit j (ClearedBy i) (of_other j i line) us)
+told_cleared bit j i (line ∷ rest) us = told_cleared bit j (i + 1) rest (with_unkept_at bit j (ClearedBy i) (of_other j i line) us)
 
 -- any service may hide it
 abbrev pub told_hidden : (bit j : ℕ) → ℕ → List (Option ℕ) → List Unkept → List Unkept
 told_hidden bit j i [] us = us
-told_hidden bit j i (line ∷ rest) us = told_hidden bit j (i + 1) rest (told bit j (HiddenBy i) line us)
+told_hidden bit j i (line ∷ rest) us = told_hidden bit j (i + 1) rest (with_unkept_at bit j (HiddenBy i) line us)
 
 -- all of this, by these rows of the bodies
 abbrev pub told_of : Layout → Script → List BodyRows → (bit j : ℕ) → Address → Service → List Unkept → List Unkept
 told_of plan script bodies bit j lam v us =
     told_hidden bit j 0 (lines_of plan script bodies Hides lam)
-    (told_cleared bit j 0 (lines_of plan script bodies Clears lam) (told bit j NotCleared (not_cleared plan script bodies lam j v) us))
+    (told_cleared bit j 0 (lines_of plan script bodies Clears lam) (with_unkept_at bit j NotCleared (not_cleared plan script bodies lam j v) us))
 
 abbrev pub told_if : Layout → Script → List BodyRows → (bit j : ℕ) → Option Service → Option Address → List Unkept → List Unkept
 told_if plan script bodies bit j None lam us = us

@@ -10,8 +10,8 @@ ghost use Rattle.camac_commands.specs.Commands.{told_over};
 
 use camac_check_costs::BodyCosts;
 use camac_check_rows::Row;
-use camac_checked::Checked;
 use camac_lang::{Item, Procedure, Service, Stmt};
+use camac_rules::Checked;
 use std::alloc::{AllocError, Global};
 
 /// What is asked of a body.

@@ -2,7 +2,7 @@
 
 ghost use Rattle.std.specs.Prelude.{◌≡◌, IfOk, map, slice_get};
 ghost use Rattle.std.specs.List.{list_any};
-ghost use Rattle.camac_lang.specs.View.{lam_of, statement_of, statements_of, term_of};
+ghost use Rattle.camac_lang.specs.View.{action_of, lam_of, statement_of, statements_of, term_of};
 ghost use Rattle.camac_model.specs.Meaning.{lam_address};
 ghost use Rattle.camac_commands.specs.Commands.{behind, behind_block, made_at, told_region};
 ghost use Rattle.camac_commands.specs.Surely.{has_turn, is_some_number, surely, surely_alone, surely_block};
@@ -13,10 +13,10 @@ use crate::command::must_clear;
 use camac_branch::Plan;
 use camac_check_costs::BodyCosts;
 use camac_check_rows::{Detail, Row};
-use camac_checked::Checked;
 use camac_commands::{Command, behind_first, detail_told, told_region};
 use camac_esone::{Address, lam_function};
-use camac_lang::{Form, Lam, Spot, Stmt, Term};
+use camac_lang::{Action, Form, Lam, Spot, Stmt, Term};
+use camac_rules::Checked;
 use camac_word::Function;
 use std::alloc::{AllocError, Global};
 
@@ -111,27 +111,27 @@ fn statement_clears<'r>(
             (first <= last && clears, left)
         }
         Stmt::Lock { body, .. } => block_clears(asked, called, body, inside),
-        Stmt::Call(call) => (told_at(called, call.procedure, false), inside),
-        _ => (clears_alone(asked, statement, detail_told(rows)), inside),
+        Stmt::Action(Action::Call(call)) => (told_at(called, call.procedure, false), inside),
+        Stmt::Action(action) => (clears_alone(asked, action, detail_told(rows)), inside),
     }
 }
 
-// Whether a statement does that holds no others and calls no procedure.
-fn clears_alone(asked: &Clearing<'_>, statement: &Stmt, detail: Detail) -> bool
-    ensures { result ≡ surely_alone (must_clear asked.now.plan.now asked.now.lam) (statement_of statement.now) detail }
+// Whether an action does that calls no procedure.
+fn clears_alone(asked: &Clearing<'_>, action: &Action, detail: Detail) -> bool
+    ensures { result ≡ surely_alone (must_clear asked.now.plan.now asked.now.lam) (action_of action.now) detail }
 {
-    match statement {
-        Stmt::Single(single) => command_clears(asked, single.spot, single.function, detail),
-        Stmt::QStop { transfer } => {
+    match action {
+        Action::Single(single) => command_clears(asked, single.spot, single.function, detail),
+        Action::QStop { transfer } => {
             is_some_number(transfer.max.term())
                 && command_clears(asked, transfer.spot, transfer.function, detail)
         }
-        Stmt::QRepeat { transfer, limit } => {
+        Action::QRepeat { transfer, limit } => {
             is_some_number(transfer.max.term())
                 && is_some_number(limit.term())
                 && command_clears(asked, transfer.spot, transfer.function, detail)
         }
-        Stmt::LamCall(action) => {
+        Action::LamCall(action) => {
             let function = lam_function(action.call);
             command_clears(asked, action.spot, function, detail)
         }

@@ -7,8 +7,8 @@ ghost use Rattle.camac_response_times.specs.Setting.{told_for};
 
 use crate::of_checked::service_name;
 use crate::unkept::Unkept;
-use camac_checked::Checked;
 use camac_response_times::{Responses, Setting, told_for};
+use camac_rules::Checked;
 
 /// Whether the script does its part of the promise, and each service for which a number is asked for has a response and has ended by then.
 pub fn are_kept(

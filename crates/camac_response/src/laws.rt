@@ -4,7 +4,7 @@ ghost use Rattle.camac_response.specs.Checked.{CheckedRespond, Responds};
 ghost use Rattle.camac_response.specs.Reach.{DecidedServe, HarmlessServe, ServicesServe};
 ghost use Rattle.camac_response.specs.Laws.{AnswersInTime, LookAtMesAreAnswered, LowestAreCalled, StretchesEnd};
 
-use camac_checked::Checked;
+use camac_rules::Checked;
 
 /// While the rates are kept, no stretch of a bit takes more cycles than any number that is enough for all that is wanted within it.
 #[tactic(auto, using(crate::proofs::Answers::stretches_end))]

@@ -1,7 +1,7 @@
 // The least line of a command of each service that could clear or hide a look-at-me: its text, walked together with its rows.
 
 ghost use Rattle.std.specs.Prelude.{◌≡◌, IfOk};
-ghost use Rattle.camac_lang.specs.View.{statement_of, statements_of};
+ghost use Rattle.camac_lang.specs.View.{action_of, statement_of, statements_of};
 ghost use Rattle.camac_commands.specs.Commands.{behind, behind_block, detail_told, made_alone};
 ghost use Rattle.camac_response.specs.Unkept.{asks, first_block, first_in, first_made, least_line, lesser, lines_of, with_line};
 
@@ -10,10 +10,10 @@ use crate::command::{could_clear, could_hide};
 use camac_branch::Plan;
 use camac_check_costs::BodyCosts;
 use camac_check_rows::Row;
-use camac_checked::Checked;
 use camac_commands::{Command, behind_first, detail_told, made_alone};
 use camac_esone::Address;
-use camac_lang::Stmt;
+use camac_lang::{Action, Stmt};
+use camac_rules::Checked;
 use std::alloc::{AllocError, Global};
 
 /// What is asked of a command, for a look-at-me.
@@ -106,27 +106,19 @@ fn statement_line<'r>(
         | Stmt::ForEach { body, .. }
         | Stmt::While { body, .. }
         | Stmt::Lock { body, .. } => { block_line(least, called, so_far, body, inside) }
-        Stmt::Call(call) => (
+        Stmt::Action(Action::Call(call)) => (
             lesser(so_far, told_at(called, call.procedure, None)),
             inside,
         ),
-        Stmt::Assign(_)
-        | Stmt::SetRegister(_)
-        | Stmt::Single(_)
-        | Stmt::Scan(_)
-        | Stmt::QStop { .. }
-        | Stmt::QRepeat { .. }
-        | Stmt::Put(_)
-        | Stmt::CrateCall(_)
-        | Stmt::LamCall(_) => (alone_line(least, so_far, statement, rows), inside),
+        Stmt::Action(action) => (action_line(least, so_far, action, rows), inside),
     }
 }
 
-// That of a statement that holds no others and calls no procedure, by what its row tells.
-fn alone_line(least: &Least<'_>, so_far: Option<u32>, statement: &Stmt, rows: &[Row]) -> Option<u32>
-    ensures { result ≡ least_line (asks least.now.plan.now least.now.asked least.now.lam) so_far (made_alone (statement_of statement.now) (detail_told rows.now)) }
+// That of an action that calls no procedure, by what its row tells.
+fn action_line(least: &Least<'_>, so_far: Option<u32>, action: &Action, rows: &[Row]) -> Option<u32>
+    ensures { result ≡ least_line (asks least.now.plan.now least.now.asked least.now.lam) so_far (made_alone (action_of action.now) (detail_told rows.now)) }
 {
-    match made_alone(statement, detail_told(rows)) {
+    match made_alone(action, detail_told(rows)) {
         Some(command) => with_line(asks(least, &command), command.spot.line, so_far),
         None => so_far,
     }

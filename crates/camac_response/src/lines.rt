@@ -10,9 +10,9 @@ ghost use Rattle.camac_word.specs.Writing.{Writes};
 use crate::bodies::told_at;
 use crate::of_checked::service_name;
 use crate::unkept::{Unkept, Why, is_kept_to};
-use camac_checked::Checked;
 use camac_lines::Line;
 use camac_response_times::{Rate, Response, Responses, Setting, Source, told_for};
+use camac_rules::Checked;
 use camac_word::{GlBit, Watched, WriteFault};
 use std::io::Write;
 

@@ -5,10 +5,10 @@ ghost use Rattle.camac_lang.specs.View.{lam_of, service_of};
 ghost use Rattle.camac_response_times.specs.Setting.{told_for};
 ghost use Rattle.camac_response.specs.Checked.{AreTold, IsNoService, first_unknown, has_name, has_service, rate_of, service_name};
 
-use camac_checked::Checked;
 use camac_lang::{Lam, Service};
 use camac_lines::lam_name;
 use camac_response_times::{Misuse, Rate, Setting, SettingOption, Settings, Source, told_for};
+use camac_rules::Checked;
 use std::alloc::{AllocError, Global};
 
 /// The services of a checked script, in their order, each at the rate that is told for its name. The error is want of memory.

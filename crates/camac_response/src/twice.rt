@@ -1,7 +1,7 @@
 // Which services may clear their look-at-mes twice on one way: their texts, walked together with their rows.
 
 ghost use Rattle.std.specs.Prelude.{◌≡◌, ◌<◌, ◌≤◌, ◌+◌, ◌-◌, ◌^◌, ◌++◌, IfOk, OnOk, length, map, min};
-ghost use Rattle.camac_lang.specs.View.{service_of, statement_of, statements_of};
+ghost use Rattle.camac_lang.specs.View.{action_of, service_of, statement_of, statements_of};
 ghost use Rattle.camac_commands.specs.Commands.{behind, behind_block, detail_told, made_alone};
 ghost use Rattle.camac_response.specs.Lams.{lams_of};
 ghost use Rattle.camac_response.specs.Twice.{clears_alone, clears_block, clears_in, clears_made, cycles_of, in_turns, is_twice, steps_told, turns_told, twice_from, twice_of, up_to_two};
@@ -12,10 +12,10 @@ use crate::command::{could_clear, places_of};
 use camac_branch::Plan;
 use camac_check_costs::{BodyCosts, costs_of};
 use camac_check_rows::{Detail, Row};
-use camac_checked::Checked;
 use camac_commands::{behind_first, detail_told, made_alone};
 use camac_esone::Address;
-use camac_lang::{Service, Stmt};
+use camac_lang::{Action, Service, Stmt};
+use camac_rules::Checked;
 use std::alloc::{AllocError, Global};
 
 /// Of each service whether there may be a way on which it clears its look-at-me twice. The error is want of memory.
@@ -137,21 +137,21 @@ fn statement_clears<'r>(
             let (once, left) = block_clears(asked, called, 0, body, inside);
             (in_turns(turns_told(detail_told(rows)), once), left)
         }
-        Stmt::Call(call) => (told_at(called, call.procedure, 0), inside),
-        _ => (alone(asked, statement, rows), inside),
+        Stmt::Action(Action::Call(call)) => (told_at(called, call.procedure, 0), inside),
+        Stmt::Action(action) => (alone(asked, action, rows), inside),
     }
 }
 
-// That of a statement that holds no others and calls no procedure, by its row.
-fn alone(asked: &Cycles<'_>, statement: &Stmt, rows: &[Row]) -> u32
-    ensures { result ≡ clears_alone asked.now.plan.now asked.now.lam (statement_of statement.now) (steps_told rows.now) (made_alone (statement_of statement.now) (detail_told rows.now)) }
+// That of an action that calls no procedure, by its row.
+fn alone(asked: &Cycles<'_>, action: &Action, rows: &[Row]) -> u32
+    ensures { result ≡ clears_alone asked.now.plan.now asked.now.lam (action_of action.now) (steps_told rows.now) (made_alone (action_of action.now) (detail_told rows.now)) }
 {
-    let Some(command) = made_alone(statement, detail_told(rows)) else {
+    let Some(command) = made_alone(action, detail_told(rows)) else {
         return 0;
     };
     if could_clear(asked.plan, asked.lam, &command) {
         cycles_of(
-            statement,
+            action,
             steps_told(rows),
             places_of(asked.plan, asked.lam, &command, 0),
         )
@@ -160,12 +160,12 @@ fn alone(asked: &Cycles<'_>, statement: &Stmt, rows: &[Row]) -> u32
     }
 }
 
-fn cycles_of(statement: &Stmt, steps: u64, places: u32) -> u32
-    ensures { result ≡ cycles_of (statement_of statement.now) steps places }
+fn cycles_of(action: &Action, steps: u64, places: u32) -> u32
+    ensures { result ≡ cycles_of (action_of action.now) steps places }
 {
-    match statement {
-        Stmt::Scan(_) => places.min(transferred(steps)),
-        Stmt::QStop { .. } | Stmt::QRepeat { .. } => transferred(steps),
+    match action {
+        Action::Scan(_) => places.min(transferred(steps)),
+        Action::QStop { .. } | Action::QRepeat { .. } => transferred(steps),
         _ => 1,
     }
 }

@@ -3,15 +3,15 @@
 ghost use Rattle.std.specs.Prelude.{◌≡◌, ◌<◌, ◌≤◌, ◌+◌, ◌^◌, IfOk, OnOk, length, slice_get};
 ghost use Rattle.camac_lang.specs.View.{service_of};
 ghost use Rattle.camac_response.specs.Lams.{lams_of};
-ghost use Rattle.camac_response.specs.Unkept.{comes_after, is_kept_to, not_cleared, rank_of, told, told_cleared, told_from, told_hidden, told_if, unkept_of};
+ghost use Rattle.camac_response.specs.Unkept.{comes_after, is_kept_to, not_cleared, rank_of, with_unkept_at, told_cleared, told_from, told_hidden, told_if, unkept_of};
 
 use crate::clears::{clears_lam, lam_at};
 use crate::least::{Question, lines_of};
 use camac_check_costs::{BodyCosts, costs_of};
-use camac_checked::Checked;
 use camac_esone::Address;
 use camac_lang::Service;
 use camac_response_times::Source;
+use camac_rules::Checked;
 use camac_word::GlBit;
 use std::alloc::{AllocError, Global};
 
@@ -157,7 +157,7 @@ fn tell(
     why: Why,
     line: Option<u32>,
 ) -> Result<(), AllocError>
-    ensures { OnOk result (found.new.items ≡ told bit service why line found.old.items) }
+    ensures { OnOk result (found.new.items ≡ with_unkept_at bit service why line found.old.items) }
 {
     let Some(line) = line else {
         return Ok(());

@@ -22,6 +22,7 @@ pub mod Services
 pub mod Orders
 pub mod ParameterNumbers
 pub mod Accepted
+pub mod Fitting
 mod Rows
 mod TransferRows
 mod EachRows

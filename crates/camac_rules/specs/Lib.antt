@@ -21,3 +21,4 @@ pub mod Accept
 pub mod Capped
 pub mod Laws
 pub mod Cases
+pub mod Checked

@@ -2,7 +2,7 @@
 use Rattle.std.proofs.Common.{sym, ap, ◌∙◌}
 use Rattle.std.specs.Prelude.{Option}
 use Rattle.camac_branch.specs.Crates.{Crates, branch_of}
-use Rattle.camac_checked.specs.Checked.{CheckedScript}
+use Rattle.camac_rules.specs.Checked.{CheckedScript}
 use Rattle.camac_run.specs.Abandoned.{AbandoningHolds}
 use Rattle.camac_run.specs.Holds.{after}
 use Rattle.camac_run.specs.Runner.{rest_from}

@@ -1,5 +1,5 @@
 -- What a service surely makes first, after the demand that calls it.
-use Rattle.std.proofs.Common.{◌≡◌, ◌∙◌, ℕ, zero, suc, ◌<◌, List, [], ◌∷◌, length, get_or, replicate, Bool, Option, None, Some, refl, sym, ap, subst, arith}
+use Rattle.std.proofs.Common.{◌≡◌, ◌∙◌, ℕ, zero, suc, ◌<◌, List, [], ◌∷◌, length, get_or, replicate, Bool, false, Option, None, Some, refl, sym, ap, subst, arith}
 use Rattle.std.proofs.Math.Path.{fun_ext}
 use Rattle.std.proofs.lemmas.Option.{same_Some}
 use Rattle.std.specs.Prelude.{slice_get}
@@ -7,7 +7,7 @@ use Rattle.camac_branch.specs.Address.{Address}
 use Rattle.camac_branch.specs.Branch.{Answer, Branch, pattern_of}
 use Rattle.camac_branch.specs.Crates.{branch_of}
 use Rattle.camac_branch.specs.Plan.{IsPlan}
-use Rattle.camac_checked.specs.Checked.{CheckedScript, IsChecked}
+use Rattle.camac_rules.specs.Checked.{CheckedScript, IsChecked}
 use Rattle.camac_lang.specs.Tree.{Service}
 use Rattle.camac_model.specs.Behaviour.{Behaviour, does, ends, Piece, demanded, event_left, Action, then_do}
 use Rattle.camac_model.specs.Fine.{most_turns}
@@ -19,12 +19,13 @@ use Rattle.camac_machine.specs.MachineState.{bounds_at, context_in}
 use Rattle.camac_machine.specs.Rest.{Operation, onward, says, served}
 use Rattle.camac_machine.proofs.Blocks.{then_ends}
 use Rattle.camac_machine.proofs.Bounds.{fine_at}
-use Rattle.camac_run.specs.Ahead.{AreAhead, BeginsWith, past_first}
+use Rattle.camac_run.specs.Ahead.{AreAhead, BeginsWith, releases_first}
+use Rattle.camac_run.specs.Operation.{past_first}
 use Rattle.camac_run.specs.Runner.{last_words_in, rest, rest_from, with_event}
 use Rattle.camac_run.specs.Sure.{Adds, IsKnown, LeadsTo}
 use Rattle.camac_run.specs.declared.ahead.Known.{Known}
-use Rattle.camac_run.specs.declared.progress.Wanted.{Wanted}
-use Rattle.camac_run.proofs.Coming.{quiet_between}
+use Rattle.camac_run.specs.declared.member.Member.{Member}
+use Rattle.camac_run.proofs.Following.{quiet_between}
 use Rattle.camac_run.proofs.Making.{goes_first, leads_along}
 use Rattle.camac_run.proofs.Serving.{onward_passes, onward_serves}
 
@@ -58,7 +59,7 @@ same_number p q j i e = cc
 none_is_called : (p q i : ℕ) → demanded p None ≡ demanded q (Some i) → ⊥
 none_is_called p q i e = absurd (cc)
 
-module _ (c : CheckedScript) (checked : IsChecked c) (planned : IsPlan c.plan) (i : ℕ) (v : Service) (os : List Wanted) (there : slice_get c.script.services i ≡ Some v) (after : Known) (all : Bool) (adds : Adds c.plan (block_meaning (context_in c) most_turns v.body) at_begin [] all after os) where
+module _ (c : CheckedScript) (checked : IsChecked c) (planned : IsPlan c.plan) (i : ℕ) (v : Service) (os : List Member) (there : slice_get c.script.services i ≡ Some v) (after : Known) (all : Bool) (no_release : releases_first os ≡ false) (adds : Adds c.plan (block_meaning (context_in c) most_turns v.body) at_begin [] all after os) where
   abbrev body : Action
   body = block_meaning (context_in c) most_turns v.body
 
@@ -100,5 +101,5 @@ module _ (c : CheckedScript) (checked : IsChecked c) (planned : IsPlan c.plan) (
           let number : u.number ≡ i = same_number p pattern u.number i (same_piece (demanded p (Some u.number)) (demanded pattern (Some i)) (its u.service []) (later []) (first [])) in
           let listed : slice_get c.script.services u.number ≡ Some u.service = (((demands_call_services c.plan planned c.script p).called u).0 e).asked.numbered in
           let same_service : v ≡ u.service = same_Some v u.service (sym there ∙ ap (slice_get c.script.services) (sym number) ∙ listed) in
-          quiet_between os unlocks event (last_words_in new) (rest new)
+          quiet_between os unlocks event (last_words_in new) (rest new) no_release
           (subst (λ (r : List Answer → Behaviour (Unit {0})). AreAhead os r) (fun_ext (λ answers. ap (λ w. its w answers) same_service ∙ ap past_first (first answers))) (served_ahead u.bit b))

@@ -12,11 +12,13 @@ pub mod Operation
 pub mod Holds
 pub mod Early
 pub mod Abandoned
-pub mod Coming
+pub mod Following
 pub mod Steps
 pub mod Making
+pub mod Short
 pub mod Arms
 pub mod Around
 pub mod Undone
 pub mod Transfers
 pub mod Called
+pub mod Begun

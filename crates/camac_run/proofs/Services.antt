@@ -6,7 +6,7 @@ use Rattle.std.proofs.lemmas.Option.{slice_get-map}
 use Rattle.std.specs.Prelude.{slice_get, option_map, option_and_then, nat_eq, if◌then◌else◌}
 use Rattle.camac_lang.specs.Tree.{Lam, Service}
 use Rattle.camac_branch.specs.Plan.{Layout, gl}
-use Rattle.camac_checked.specs.Checked.{CheckedScript, linked_of}
+use Rattle.camac_rules.specs.Checked.{CheckedScript, linked_of}
 use Rattle.camac_model.specs.Meaning.{Context, context, lam_address}
 use Rattle.camac_model.specs.Run.{Chosen, service_bit, is_bit, is_bit_set, with_bit, or_next, first_service}
 use Rattle.camac_names.specs.Link.{lam_bit, service_bit as link_bit}

@@ -26,7 +26,7 @@ use Rattle.camac_run.specs.Sure.{KnowsVariables, IsKnown, HasValue, on, MakesCyc
 use Rattle.camac_machine.specs.Store.{held_at}
 use Rattle.camac_machine.specs.declared.scope.Places.{Places}
 use Rattle.camac_machine.proofs.Procedures.{taken_at}
-use Rattle.camac_run.proofs.Coming.{knows_set}
+use Rattle.camac_run.proofs.Following.{knows_set}
 use Rattle.camac_lang.specs.declared.spot.Spot.{Spot}
 
 pub map_some : {A : Type 0} (o : Option A) (P Q : A → Type 0) → ((v : A) → P v → Q v) → IfSome o P → IfSome o Q

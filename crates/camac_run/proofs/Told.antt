@@ -11,7 +11,7 @@ use Rattle.camac_branch.specs.Crates.{Crates, branch_of}
 use Rattle.camac_branch.specs.Branch.{Answer}
 use Rattle.arrayvec.specs.ArrayVec.{ArrayVec}
 use Rattle.camac_branch.specs.declared.answer.Overrun.{Overrun}
-use Rattle.camac_checked.specs.Checked.{CheckedScript, IsChecked}
+use Rattle.camac_rules.specs.Checked.{CheckedScript, IsChecked}
 use Rattle.camac_lang.specs.Fits.{fits}
 use Rattle.camac_model.specs.State.{State}
 use Rattle.camac_model.specs.Behaviour.{Behaviour, ends, stops, short, Action, then_do}
@@ -75,9 +75,9 @@ module _ {V D C : ℕ} where
 
   pub counted : (new : Machine V D C) (next' : Option Pending) (event : Option Left) (fed n : ℕ) (has : Bool) (o : Option Overrun) (d : Crates) (m : ℕ) (s : RunnerState)
       → new.missed ≤ new.cost → IsCounted new next' event fed n has o d m s → IsAsBefore new next' event fed n has o d m s
-      → IfNone event (s.events ≡ n) × IfSome event (λ e. (e.0 ≡ n + 1) × (s.events ≡ e.0) × (e.2.missed ≤ e.2.cycles)) × IfNone event (last_words_in s ≡ []) × (s.fed ≡ fed) × (s.overrun ≡ o) × (s.checked ≡ new.checked.now) × IfSome s.pending (λ w. s.at_demand ≡ d)
-  counted new None event fed n has o d m s few a b = rw (a.0, a.1) (tt, (refl, refl, few), tt, refl, refl, refl, tt)
-  counted new (Some w) event fed n has o d m s few a b = rw (b.0, b.1) (refl, tt, refl, refl, refl, refl, refl)
+      → IfNone event (s.events ≡ n) × IfSome event (λ e. (e.0 ≡ n + 1) × (s.events ≡ e.0) × (e.2.missed ≤ e.2.cycles)) × IfNone event (last_words_in s ≡ []) × (s.fed ≡ fed) × (s.overrun ≡ o) × (s.checked ≡ new.checked.now) × IfSome s.pending (λ w. s.at_demand ≡ d) × IfSome event (λ e. s.pending ≡ None)
+  counted new None event fed n has o d m s few a b = rw (a.0, a.1) (tt, (refl, refl, few), tt, refl, refl, refl, tt, refl)
+  counted new (Some w) event fed n has o d m s few a b = rw (b.0, b.1) (refl, tt, refl, refl, refl, refl, refl, tt)
 
   -- a machine whose releases are told
   pub room_told : (h : Machine V D C) (none : ArrayVec ℕ) → none.items ≡ [] → HasRoom h → HasRoom (record h { unlocks = none })

@@ -25,6 +25,7 @@ pub record Leaves (old : RunnerState) (unlocks : List ℕ) (new : RunnerState) :
   pub events : new.events ≡ old.events
   pub overrun : new.overrun ≡ None
   pub checked : new.checked ≡ old.checked
+  pub limit : new.limit ≡ old.limit
 
 -- where a service is in progress; else nothing changes
 abbrev pub LeavesIf : Option Operation → RunnerState → List ℕ → RunnerState → Type 0

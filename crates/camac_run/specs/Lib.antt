@@ -4,6 +4,7 @@ pub mod Requested
 pub mod Called
 pub mod Runner
 pub mod Place
+pub mod Size
 pub mod Sound
 pub mod Ends
 pub mod Operation

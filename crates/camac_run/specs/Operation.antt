@@ -54,6 +54,12 @@ Waits (ends x) = Unit {0}
 Waits (stops short s) = Unit {0}
 Waits _ = ⊥
 
+-- what comes after its first piece
+abbrev pub past_first : {A : Type 0} → Behaviour A → Behaviour A
+past_first (does p b) = b
+past_first (ends x) = ends x
+past_first (stops w s) = stops w s
+
 -- Whatever the next answer is, and those after it, it is used for this operation, and nothing is done without one. A run wants none after
 -- a wait that was not permitted, and none while it pauses.
 abbrev pub Wants : RunnerState → Option Wanted → Type 0

@@ -4,7 +4,7 @@ use Rattle.camac_branch.specs.Address.{Address}
 use Rattle.camac_branch.specs.Branch.{Answer}
 use Rattle.camac_branch.specs.Crates.{Crates, branch_of}
 use Rattle.camac_branch.specs.declared.answer.Overrun.{Overrun}
-use Rattle.camac_checked.specs.Checked.{CheckedScript}
+use Rattle.camac_rules.specs.Checked.{CheckedScript}
 use Rattle.camac_lang.specs.Tree.{Statement}
 use Rattle.camac_model.specs.State.{State}
 use Rattle.camac_model.specs.Value.{greatest}
@@ -90,7 +90,7 @@ abbrev pub demanded_at : Option Operation → RunnerState → Crates
 demanded_at None h = h.crates
 demanded_at (Some w) h = h.at_demand
 
--- the answer was used for this item, and then these locks were released
+-- the answer was used for this item, and then these locks were released; an event is left where a service ended
 pub record GoesOn (old : RunnerState) (answer : Answer) (item : Item) (unlocks : List ℕ) (event : Option Left) (new : RunnerState) : Type 0 where
   pub first : old.overrun ≡ None
   pub goes :
@@ -100,6 +100,7 @@ pub record GoesOn (old : RunnerState) (answer : Answer) (item : Item) (unlocks :
   pub same : IfNone event (new.events ≡ old.events)
   pub next : IfSome event (λ e. (e.0 ≡ old.events + 1) × (new.events ≡ e.0) × (e.2.missed ≤ e.2.cycles))
   pub none : IfNone event (last_words_in new ≡ [])
+  pub ended : IfSome event (λ e. new.pending ≡ None)
   pub overrun : new.overrun ≡ None
   pub checked : new.checked ≡ old.checked
   pub at_demand : IfSome new.pending (λ w. new.at_demand ≡ demanded_at old.pending old)

@@ -7,7 +7,7 @@ use Rattle.camac_lang.specs.declared.tree.Stmt.{Stmt}
 use Rattle.camac_branch.specs.Branch.{Answer}
 use Rattle.camac_branch.specs.Crates.{Crates, branch_of}
 use Rattle.camac_branch.specs.declared.answer.Overrun.{Overrun}
-use Rattle.camac_checked.specs.Checked.{IsChecked}
+use Rattle.camac_rules.specs.Checked.{IsChecked}
 use Rattle.camac_lang.specs.Fits.{fits}
 use Rattle.camac_machine.specs.declared.machine.Machine.{Machine}
 use Rattle.camac_machine.specs.declared.machine.Pending.{Pending}

@@ -4,24 +4,29 @@ use Rattle.camac_branch.specs.Address.{Address}
 use Rattle.camac_branch.specs.Branch.{Answer}
 use Rattle.camac_branch.specs.Plan.{Layout}
 use Rattle.camac_branch.specs.declared.answer.Command.{Command}
-use Rattle.camac_checked.specs.Checked.{CheckedScript}
+use Rattle.camac_rules.specs.Checked.{CheckedScript}
 use Rattle.camac_lang.specs.Tree.{Condition, Expression, Statement}
 use Rattle.camac_model.specs.Behaviour.{Behaviour, ends, stops, wrong, Action, decide, then_do}
 use Rattle.camac_model.specs.Fine.{Bounds, IsFine, most_turns}
 use Rattle.camac_model.specs.Cycle.{release}
-use Rattle.camac_model.specs.Meaning.{Context, block_meaning, context, effect}
+use Rattle.camac_model.specs.Meaning.{Context, block_meaning, context, effect, transfer_to}
 use Rattle.camac_model.specs.State.{State, Registers, Variables, set_at}
 use Rattle.camac_model.specs.Value.{truth, value}
+use Rattle.camac_machine.specs.Course.{words_sent}
 use Rattle.camac_machine.specs.MachineState.{bounds_of, context_in, left_in, registers_here, variables_here}
 use Rattle.camac_machine.specs.Rest.{Operation, makes, reads, locks, transfers, pauses, awaited}
 use Rattle.camac_machine.specs.declared.machine.Machine.{Machine}
 use Rattle.camac_run.specs.Ahead.{AreAhead}
+use Rattle.camac_run.specs.Transfer.{IsBlock, left_by, next_in}
 use Rattle.camac_run.specs.declared.ahead.Inside.{Inside}
 use Rattle.camac_run.specs.declared.ahead.Known.{Known}
+use Rattle.camac_run.specs.declared.member.Member.{Member}
 use Rattle.camac_run.specs.declared.sure.Sure.{Sure}
 use Rattle.camac_run.specs.declared.sure.Sure.TheVariants as sure
 use Rattle.camac_run.specs.declared.progress.Wanted.{Wanted}
 use Rattle.camac_run.specs.declared.progress.Wanted.TheVariants as wanted
+use Rattle.camac_run.specs.declared.transfer.ReadBlock.{ReadBlock}
+use Rattle.camac_run.specs.declared.transfer.TransferLeft.{TransferLeft}
 
 -- what is known of values by their numbers is so
 abbrev pub Knows : {A B : Type 0} → (A → B) → List (Option A) → (ℕ → B) → Type 0
@@ -66,7 +71,7 @@ abbrev pub After : Operation → (before after : Variables) → Type 0
 After (makes k) before after = after ≡ before
 After (reads k x bits) before after = (v : ℕ) × (after ≡ set_at x v before)
 After (locks k body) before after = after ≡ before
-After (transfers course f table x) before after = ⊥
+After (transfers course f table x) before after = (v : ℕ) × (after ≡ set_at x v before)
 After pauses before after = ⊥
 
 -- with these answers to come
@@ -79,6 +84,16 @@ pub record MakesCycle (c : Context) (variables : List (Option ℕ)) (registers :
   pub is_cycle : one_operation operation ≡ Some (wanted.Cycle k)
   pub begins : (s : State) → IsKnown variables registers s → effect c most_turns st s ≡ awaited c operation s
   pub known : (f g : Variables) → KnowsVariables variables f → After operation f g → KnowsVariables after g
+
+-- the statement makes the cycles of this block alone, and no more is known of the variables after it
+pub record MakesBlock (c : Context) (variables : List (Option ℕ)) (registers : List (Option Address)) (st : Statement) (t : TransferLeft) (after : List (Option ℕ)) : Type 0 where
+  pub block : IsBlock t
+  -- of the variable that it sets
+  pub number : ℕ
+  pub begins :
+      (s : State) → IsKnown variables registers s
+      → effect c most_turns st s ≡ transfer_to c.plan t.first.f (words_sent t.table) (next_in t) number s
+  pub known : (f : Variables) (v : ℕ) → KnowsVariables variables f → KnowsVariables after (set_at number v f)
 
 -- what needs no answer, and leaves so much known; or is wrong
 abbrev pub PassesFrom : State → Action → List (Option ℕ) → List (Option Address) → Type 0
@@ -94,6 +109,7 @@ NeedsNone c variables registers st variables' registers' =
 -- what a statement surely does, and what is known before and after it
 abbrev pub IsSure : Context → List (Option ℕ) → List (Option Address) → Statement → Sure → List (Option ℕ) → List (Option Address) → Type 0
 IsSure c variables registers st (sure.Makes k) variables' registers' = (registers' ≡ registers) × MakesCycle c variables registers st k variables'
+IsSure c variables registers st (sure.Transfers b) variables' registers' = (registers' ≡ registers) × MakesBlock c variables registers st (left_by b) variables'
 IsSure c variables registers st sure.NeedsNone variables' registers' = NeedsNone c variables registers st variables' registers'
 IsSure c variables registers st sure.Unknown variables' registers' = Unit {0}
 
@@ -101,6 +117,11 @@ IsSure c variables registers st sure.Unknown variables' registers' = Unit {0}
 abbrev pub sure_of : Option Command → Sure
 sure_of None = sure.Unknown
 sure_of (Some k) = sure.Makes k
+
+-- the block of a step, if it is known
+abbrev pub transfer_of : Option ReadBlock → Sure
+transfer_of None = sure.Unknown
+transfer_of (Some b) = sure.Transfers b
 
 -- what a block sees that stands before the procedure of this number
 abbrev pub context_before : CheckedScript → ℕ → Context
@@ -110,25 +131,25 @@ abbrev pub context_of : Inside → Context
 context_of b = context_before b.checked.now b.procedures
 
 -- where it is fine to do this, these operations are ahead, whatever the service leaves after it
-abbrev pub LeadsTo : Layout → Bounds → Action → State → List Wanted → Type 0
+abbrev pub LeadsTo : Layout → Bounds → Action → State → List Member → Type 0
 LeadsTo plan bounds go s os =
     ((answers : List Answer) → IsFine plan bounds (go (on answers s)))
     → (leave : State → Behaviour (Unit {0})) → AreAhead os (λ answers. then_do (go (on answers s)) leave)
 
 -- they are ahead wherever so much is known
-abbrev pub Leads : Layout → Bounds → Known → Action → List Wanted → Type 0
+abbrev pub Leads : Layout → Bounds → Known → Action → List Member → Type 0
 Leads plan bounds k go os = (s : State) → IsKnown k.variables k.registers s → LeadsTo plan bounds go s os
 
 -- This makes these operations, whatever is answered. If they are all, so much is known after it: what is ahead then is ahead behind them.
 -- Else it makes them first, and it is not known how it goes on.
-abbrev pub Goes : Layout → Action → Known → List Wanted → (all : Bool) → Known → Type 0
+abbrev pub Goes : Layout → Action → Known → List Member → (all : Bool) → Known → Type 0
 Goes plan go before made true after =
-    (bounds : Bounds) (around : Action) (os : List Wanted) → Leads plan bounds after around os → Leads plan bounds before (λ s. then_do (go s) around) (made ++ os)
+    (bounds : Bounds) (around : Action) (os : List Member) → Leads plan bounds after around os → Leads plan bounds before (λ s. then_do (go s) around) (made ++ os)
 Goes plan go before made false after = (bounds : Bounds) (around : Action) → Leads plan bounds before (λ s. then_do (go s) around) made
 
 -- operations that this makes are added to others
-abbrev pub Adds : Layout → Action → (before : Known) → (old : List Wanted) → (all : Bool) → (after : Known) → (new : List Wanted) → Type 0
-Adds plan go before old all after new = (made : List Wanted) × (new ≡ old ++ made) × Goes plan go before made all after
+abbrev pub Adds : Layout → Action → (before : Known) → (old : List Member) → (all : Bool) → (after : Known) → (new : List Member) → Type 0
+Adds plan go before old all after new = (made : List Member) × (new ≡ old ++ made) × Goes plan go before made all after
 
 -- `if`, by what its arms do
 abbrev pub chooses : Condition → Action → Action → Action
@@ -136,12 +157,12 @@ chooses test first second s = decide (truth test s.variables s.q s.x) first seco
 
 -- all that is known then was known before
 abbrev pub KnowsLess : (before after : Known) → Type 0
-KnowsLess before after = (s : State) → IsKnown before.variables before.registers s → IsKnown after.variables after.registers s
+KnowsLess before after = Knows Some after.variables (λ i. slice_index_or before.variables i None) × Knows Some after.registers (λ i. slice_index_or before.registers i None)
 
 -- those that are ahead after what is waited for
-abbrev pub AddsFollowing : {V D C : ℕ} → Machine V D C → Operation → (old new : List Wanted) → Type 0
+abbrev pub AddsFollowing : {V D C : ℕ} → Machine V D C → Operation → (old new : List Member) → Type 0
 AddsFollowing h w old new =
-    (added : List Wanted)
+    (added : List Member)
     × (new ≡ old ++ added)
     × ((t : State) → t.registers ≡ registers_here h → After w (variables_here h) t.variables
     → LeadsTo h.checked.now.plan (bounds_of h) (λ s. then_do (goes_on_with (context_in h.checked.now) w s) (left_in h)) t added)

@@ -1,6 +1,7 @@
 -- What is left of a transfer: its cycles, one after the other.
-use Rattle.std.specs.Prelude.{◌≡◌, ℕ, ◌+◌, ◌*◌, ◌-◌, min, List, [], ◌∷◌, ◌++◌, Bool, true, false, Option, Some, None, IfSome}
+use Rattle.std.specs.Prelude.{◌≡◌, ℕ, ◌+◌, ◌*◌, ◌-◌, min, List, [], ◌∷◌, ◌++◌, Bool, true, false, Option, Some, None, IfNone, IfSome, is_some}
 use Rattle.camac_func.specs.declared.data.DataMove.{DataMove}
+use Rattle.camac_func.specs.declared.data.DataMove.TheVariants.{In}
 use Rattle.camac_branch.specs.Address.{Address}
 use Rattle.camac_branch.specs.Branch.{Answer}
 use Rattle.camac_branch.specs.declared.answer.Command.{Command}
@@ -10,14 +11,17 @@ use Rattle.camac_esone.specs.Transfers.{NextAddress, q_stop_next, q_repeat_next,
 use Rattle.camac_model.specs.Behaviour.{Behaviour, does, ends, stops, Piece, demanded, cycled, lock_taken, lock_released, event_left}
 use Rattle.camac_model.specs.Transfer.{transfer_data}
 use Rattle.camac_model.specs.Value.{greatest}
-use Rattle.camac_machine.specs.Course.{words_from, words_sent}
+use Rattle.camac_machine.specs.Course.{left_at, words_from, words_sent}
 use Rattle.camac_machine.specs.MachineState.{piece_of}
 use Rattle.camac_machine.specs.Rest.{address_of, Operation, makes, reads, locks, transfers, pauses}
-use Rattle.camac_run.specs.Operation.{Begins, Waits, Wants}
+use Rattle.camac_machine.specs.declared.machine.Pending.{Pending}
+use Rattle.camac_machine.specs.declared.machine.Pending.TheVariants as waits_for
+use Rattle.camac_run.specs.Operation.{Begins, Waits, Wants, past_first}
 use Rattle.camac_run.specs.Runner.{RunnerState, rest, Progresses}
 use Rattle.camac_run.specs.declared.progress.Progress.{Progress}
 use Rattle.camac_run.specs.declared.progress.Progress.TheVariants as progress
 use Rattle.camac_run.specs.declared.progress.Wanted.TheVariants.{Cycle}
+use Rattle.camac_run.specs.declared.transfer.ReadBlock.{ReadBlock}
 use Rattle.camac_run.specs.declared.transfer.TransferLeft.{TransferLeft}
 use Rattle.camac_run.specs.declared.transfer.TransferMode.{TransferMode}
 use Rattle.camac_run.specs.declared.transfer.TransferMode.TheVariants.{QStop, QRepeat, Scan}
@@ -30,6 +34,10 @@ next_by Scan first last cycles words = scan_next first last words
 
 abbrev pub next_in : TransferLeft → NextAddress
 next_in t = next_by t.mode (address_of t.first) t.last t.cycles t.words
+
+-- a transfer that reads sends no table
+abbrev pub left_by : ReadBlock → TransferLeft
+left_by b = record { mode = b.mode; first = b.first; last = b.last; cycles = b.cycles; words = b.words; table = None }
 
 -- a cycle at an address that moves this, if there are both
 abbrev pub command_if : (function : ℕ) → Option Address → Option DataMove → Option Command
@@ -49,22 +57,25 @@ q_of (lock_taken c w) = None
 q_of (lock_released c) = None
 q_of (event_left e) = None
 
--- where a run begins with a cycle, this is so of its Q and of what comes after it
-abbrev pub AfterCycle : {A : Type 0} → (Bool → Behaviour A → Type 0) → Behaviour A → Type 0
-AfterCycle IsSo (does p b) = IfSome (q_of p) (λ q. IsSo q b)
-AfterCycle IsSo (ends x) = Unit {0}
-AfterCycle IsSo (stops w s) = Unit {0}
+-- the Q of the first piece, if that is a cycle
+abbrev pub first_q : {A : Type 0} → Behaviour A → Option Bool
+first_q (does p b) = q_of p
+first_q (ends x) = None
+first_q (stops w s) = None
 
--- A run on these answers makes the cycles that come after these Q: the next answer, whatever it is, is used for the next one, and for want of an answer
--- the run waits. So it goes on with the Q of each that is made, up to the last.
-abbrev pub MakesAfter : {A : Type 0} → (List Bool → Option Command) → (qs : List Bool) → List Answer → Behaviour A → Type 0
-MakesAfter cycle qs [] run = IfSome (cycle qs) (λ k. Waits run)
-MakesAfter cycle qs (a ∷ answers) run =
-    IfSome (cycle qs) (λ k. Begins (Cycle k) a run × AfterCycle (λ q. MakesAfter cycle (qs ++ q ∷ []) answers) run)
+-- A run makes the cycles that come after these Q: by the answers that it gets it waits for one, and the next one, whatever it is, is used for the
+-- next cycle. So it goes on with the Q of each that is made, up to the last; and what comes after that is so.
+abbrev pub MakesThen : {A : Type 0} → ((List Answer → Behaviour A) → Type 0) → (List Bool → Option Command) → (qs : List Bool) → (used : List Answer) → (List Answer → Behaviour A) → Type 0
+MakesThen IsSo cycle qs [] run =
+    IfNone (cycle qs) (IsSo run)
+    × IfSome (cycle qs) (λ k. Waits (run []) × ((a : Answer) (answers : List Answer) → Begins (Cycle k) a (run (a ∷ answers))))
+MakesThen IsSo cycle qs (a ∷ used) run =
+    IfSome (cycle qs)
+    (λ k. (answers : List Answer) (q : Bool) → first_q (run (a ∷ answers)) ≡ Some q → MakesThen IsSo cycle (qs ++ q ∷ []) used (λ later. past_first (run (a ∷ later))))
 
 -- a runner stands in a transfer, after these Q of it
 abbrev pub StandsIn : TransferLeft → List Bool → RunnerState → Type 0
-StandsIn t qs h = (answers : List Answer) → MakesAfter (cycle_after t) qs answers (rest h answers)
+StandsIn t qs h = (used : List Answer) → MakesThen (λ run. Unit {0}) (cycle_after t) qs used (rest h)
 
 -- how many addresses a scan has at most from the first to the last, 16 at each station
 abbrev pub window : (first last : Address) → ℕ
@@ -75,11 +86,15 @@ most_cycles QStop t = t.words
 most_cycles QRepeat t = t.cycles
 most_cycles Scan t = window (address_of t.first) t.last
 
+-- a transfer with this next cycle, and how many it makes at most
+pub record IsBlock (t : TransferLeft) : Type 0 where
+  pub first : cycle_after t [] ≡ Some t.first
+  pub most : t.cycles ≡ most_cycles t.mode t
+
 -- This is left of the transfer whose next cycle a runner wants.
 pub record IsLeft (h : RunnerState) (t : TransferLeft) : Type 0 where
-  pub first : cycle_after t [] ≡ Some t.first
+  pub block : IsBlock t
   pub stands : StandsIn t [] h
-  pub most : t.cycles ≡ most_cycles t.mode t
 
 -- whether a service in progress waits for a cycle of a transfer
 abbrev pub is_transfer : Option Operation → Bool
@@ -104,12 +119,27 @@ GoesOnIn t qs (progress.Went item unlocks event) new =
 
 abbrev pub TransfersGoOn : Type 0
 TransfersGoOn =
-    (old new : RunnerState) (t : TransferLeft) (qs : List Bool) (k : Command) (a : Answer) (its : Progress)
-    → StandsIn t qs old → cycle_after t qs ≡ Some k → Progresses old a its new → GoesOnIn t qs its new
+    (old new : RunnerState) (t : TransferLeft) (qs : List Bool) (k : Command) (a : Answer) (progressed : Progress)
+    → StandsIn t qs old → cycle_after t qs ≡ Some k → Progresses old a progressed new → GoesOnIn t qs progressed new
 
 -- this is left of a transfer that is so far, with this next cycle and this table
-pub record Leaves (its : Left) (first : Command) (table : Option (List ℕ)) (t : TransferLeft) : Type 0 where
-  pub next : (qs : List Bool) → next_in t qs ≡ its.next_address qs
+pub record Leaves (left : Left) (first : Command) (table : Option (List ℕ)) (t : TransferLeft) : Type 0 where
+  pub next : (qs : List Bool) → next_in t qs ≡ left.next_address qs
   pub first_is : t.first ≡ first
-  pub sends : words_sent t.table ≡ words_from its.tally table
+  pub sends : words_sent t.table ≡ words_from left.tally table
   pub most : t.cycles ≡ most_cycles t.mode t
+
+-- this is a transfer that reads, before its first cycle
+pub record IsBegun (mode : TransferMode) (first last : Address) (function cycles words : ℕ) (b : ReadBlock) : Type 0 where
+  pub starts : is_some (next_by mode first last cycles words []) ≡ true
+  pub is : b ≡ record { mode = mode; first = command_at first function In; last = last; cycles = cycles; words = words }
+
+-- the transfer that is waited for has a next cycle, the one that is wanted
+abbrev pub CanGoOn : Pending → Type 0
+CanGoOn (waits_for.Transfer w) = (left_at w.course).next_address [] ≡ Some (address_of w.command)
+CanGoOn p = Unit {0}
+
+-- this is left of it
+abbrev pub IsBlockOf : Pending → ReadBlock → Type 0
+IsBlockOf (waits_for.Transfer w) b = Leaves (left_at w.course) w.command (words_sent w.table) (left_by b)
+IsBlockOf p b = ⊥

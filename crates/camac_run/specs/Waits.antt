@@ -38,5 +38,5 @@ is_used (Overrun o) = false
 -- So an answer is used exactly if its wait is not longer than the longest one before the operation.
 abbrev pub WaitsDecide : Type 0
 WaitsDecide =
-    (old new : RunnerState) (o : Wanted) (a : Answer) (its : Progress)
-    → old.overrun ≡ None → GoesOnUpTo old (waits_of old o) → a.wait ≤ 15 → Progresses old a its new → is_used its ≡ nat_le a.wait (waits_of old o)
+    (old new : RunnerState) (o : Wanted) (a : Answer) (progressed : Progress)
+    → old.overrun ≡ None → GoesOnUpTo old (waits_of old o) → a.wait ≤ 15 → Progresses old a progressed new → is_used progressed ≡ nat_le a.wait (waits_of old o)

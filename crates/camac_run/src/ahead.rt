@@ -1,51 +1,37 @@
 // The operations that surely follow the one that a service in progress waits for.
 
-ghost use Rattle.std.specs.Prelude.{◌≡◌, ◌+◌, ◌-◌, ◌<◌, ◌≤◌, ℕ, Option, None, IfSome, IsSome, IsSomeAnd, Some, true, false, map, replicate, slice_get, slice_index_or, [], ◌∷◌, ◌++◌};
+ghost use Rattle.std.specs.Prelude.{◌≡◌, ◌+◌, ◌-◌, ◌<◌, ◌≤◌, ℕ, Option, None, IfSome, IsSomeAnd, Some, true, false, map, replicate, slice_get, slice_index_or, []};
 ghost use Rattle.arrayvec.specs.ArrayVec.{array_vec_len};
 ghost use Rattle.camac_lang.specs.Tree.{locked};
-ghost use Rattle.camac_lang.specs.View.{call_of, condition_of, expression_of, for_of, statement_of, statements_of};
+ghost use Rattle.camac_lang.specs.View.{action_of, call_of, condition_of, expression_of, for_of, statement_of, statements_of};
 ghost use Rattle.camac_lang.specs.declared.spot.Spot.{Spot};
-ghost use Rattle.camac_machine.specs.MachineState.{context_in, opens_of, owner_in, pending_of};
-ghost use Rattle.camac_machine.specs.Rest.{owed, rest_in};
+ghost use Rattle.camac_machine.specs.MachineState.{context_in, left_in, opens_of, owner_in, pending_of};
+ghost use Rattle.camac_machine.specs.Rest.{locks, owed, rest_in};
 ghost use Rattle.camac_machine.specs.Store.{held_at, registers_in, variables_in};
+ghost use Rattle.camac_model.specs.Behaviour.{then_do};
 ghost use Rattle.camac_model.specs.Fine.{most_turns};
-ghost use Rattle.camac_model.specs.Meaning.{Context, block_meaning, effect, for_from, for_state, for_turns};
+ghost use Rattle.camac_model.specs.Meaning.{block_meaning, effect, for_from, for_state, for_turns};
 ghost use Rattle.camac_model.specs.State.{Variables, stepped};
 ghost use Rattle.camac_run.specs.Ahead.{BeginsWith};
-ghost use Rattle.camac_run.specs.Sure.{KnowsVariables, KnowsRegisters, KnowsLess, HasValue, After, chooses, context_of, Adds, AddsFollowing, Goes, one_operation};
-ghost use Rattle.camac_run.specs.declared.progress.Wanted.TheVariants.{Lock};
+ghost use Rattle.camac_run.specs.Size.{AddsOfSize, size_of};
+ghost use Rattle.camac_run.specs.Sure.{KnowsVariables, KnowsRegisters, HasValue, After, chooses, context_of, Adds, AddsFollowing, goes_on_with};
 
+use crate::list::{Ahead, Coming, releases_first};
+use crate::member::Member;
 use crate::progress::Wanted;
-use crate::sure::{Sure, crate_of, known_of, note, truth_of, value_of};
-use arrayvec::ArrayVec;
-use camac_branch::Command;
-use camac_checked::Checked;
+use crate::size::size_of_action;
+use crate::sure::{Sure, crate_of, forget, forget_block, known_of, note, truth_of, value_of};
 use camac_esone::Address;
-use camac_lang::{Cond, Expr, ForHead, ProcedureCall, Stmt, limits};
+use camac_lang::{Action, Cond, Expr, ForHead, ProcedureCall, Stmt, limits};
 use camac_machine::{Frame, Machine, Owner, Pending, Places, Scope};
+use camac_rules::Checked;
 use camac_word::CrateNo;
-
-/// The most operations that are told ahead.
-pub const AHEAD: usize = 64;
-
-/// How many steps are looked ahead at most.
-const STEPS: u32 = 512;
-
-/// Operations that come next, whatever is answered.
-pub type Ahead = ArrayVec<Wanted, AHEAD>;
 
 /// What is known of the variables and registers of a body.
 #[derive(Drop)]
 pub struct Known {
     pub variables: [Option<u32>; limits::VARIABLES],
     pub registers: [Option<Address>; limits::REGISTERS],
-}
-
-/// The operations so far, and how many steps are looked ahead after them at most.
-#[derive(Drop)]
-pub struct Coming {
-    pub ahead: Ahead,
-    pub steps: u32,
 }
 
 /// What a block may call, the procedures of a script before this one, and how many blocks more are looked into.
@@ -57,8 +43,8 @@ pub struct Inside<'a> {
 }
 
 impl Known {
-    // Nothing is known.
-    fn nothing() -> Known
+    /// Nothing is known.
+    pub fn nothing() -> Known
         ensures { result ≡ record { variables = replicate 64 None; registers = replicate 64 None } }
     {
         Known {
@@ -87,41 +73,6 @@ impl Known {
     }
 }
 
-impl Coming {
-    /// No operation yet.
-    pub fn nothing() -> Coming
-        ensures { result.ahead.items ≡ [] }
-    {
-        Coming {
-            ahead: Ahead::new(),
-            steps: STEPS,
-        }
-    }
-
-    // Makes so many steps, if that many are left.
-    fn step(&mut self, steps: usize) -> bool
-        ensures { self.new ≡ record self.old { steps = self.new.steps } }
-    {
-        if steps > self.steps as usize {
-            return false;
-        }
-        self.steps -= steps as u32;
-        true
-    }
-
-    // Takes the lock of a crate. A list may hold commands, and the prover wants their type among the function's own.
-    fn lock(&mut self, c: CrateNo)
-        requires { array_vec_len self.old.ahead < 64 }
-        ensures { self.new.ahead.items ≡ self.old.ahead.items ++ Lock c ∷ [] }
-    {
-        let none: Option<Command> = None;
-        match none {
-            Some(command) => self.ahead.push(Wanted::Cycle(command)),
-            None => self.ahead.push(Wanted::Lock(c)),
-        }
-    }
-}
-
 impl<'a> Inside<'a> {
     // Sees all procedures of a script.
     fn of_all(checked: &'a Checked) -> Inside<'a>
@@ -135,8 +86,8 @@ impl<'a> Inside<'a> {
         }
     }
 
-    // Inside a block more, which sees the procedures before this one.
-    fn within(&self, procedures: usize) -> Inside<'a>
+    /// Inside a block more, which sees the procedures before this one.
+    pub fn within(&self, procedures: usize) -> Inside<'a>
         requires { 0 < self.now.depth }
         ensures { result ≡ record { checked = self.now.checked; procedures = procedures; depth = self.now.depth - 1 } }
     {
@@ -148,33 +99,51 @@ impl<'a> Inside<'a> {
     }
 }
 
-/// Adds the operations that surely follow what a service in progress waits for.
+/// Adds what surely follows the operation or the transfer that a service in progress waits for.
 pub fn add_following<const V: usize, const DEPTH: usize, const CAP: usize>(
     machine: &Machine<'_, V, DEPTH, CAP>,
     pending: &Pending,
     coming: &mut Coming,
 )
-    requires { IsSome (one_operation (pending_of pending.now)) }
     ensures { AddsFollowing machine.now (pending_of pending.now) coming.old.ahead.items coming.new.ahead.items }
 {
     let mut known = Known::nothing();
     known.see(&machine.scope, &machine.variables, &machine.registers);
     forget_read(pending, &mut known.variables);
-    if let Pending::Lock { body, .. } = pending {
-        let inside = Inside::of_all(machine.checked);
-        add_block(&inside, body, &mut known, coming);
+    if let Pending::Lock { crate_no, body } = pending {
+        add_locked(machine, *crate_no, body, &mut known, coming);
         return;
     }
     add_open(machine, machine.frames.as_slice(), &mut known, coming);
 }
 
-/// The operations that the service of this number, from 0, surely makes first.
-pub fn service_ahead(checked: &Checked, number: usize) -> Ahead
+// Adds what surely follows the taking of a lock over a block.
+fn add_locked<const V: usize, const DEPTH: usize, const CAP: usize>(
+    machine: &Machine<'_, V, DEPTH, CAP>,
+    c: CrateNo,
+    body: &[Stmt],
+    known: &mut Known,
+    coming: &mut Coming,
+)
+    ensures { Adds machine.now.checked.now.plan (λ s. then_do (goes_on_with (context_in machine.now.checked.now) (locks c (statements_of body.now)) s) (left_in machine.now)) known.old coming.old.ahead.items false known.new coming.new.ahead.items }
+{
+    let inside = Inside::of_all(machine.checked);
+    if !add_block(&inside, body, known, coming) {
+        return;
+    }
+    if !coming.release(c) {
+        return;
+    }
+    add_open(machine, machine.frames.as_slice(), known, coming);
+}
+
+/// What the service of this number, from 0, surely does first; with blocks and releases, if the list may go so far.
+pub fn service_ahead(checked: &Checked, number: usize, far: bool) -> Ahead
     ensures { BeginsWith checked.now number result.items }
 {
     checked.is_checked();
     checked.plan().is_plan();
-    let mut coming = Coming::nothing();
+    let mut coming = Coming::nothing(far);
     let services = checked.script().services();
     if number >= services.len() {
         return coming.ahead;
@@ -184,10 +153,13 @@ pub fn service_ahead(checked: &Checked, number: usize) -> Ahead
     let inside = Inside::of_all(checked);
     let body = service.body.as_slice();
     add_block(&inside, body, &mut known, &mut coming);
+    if releases_first(coming.ahead.as_slice()) {
+        return Ahead::new();
+    }
     coming.ahead
 }
 
-// Forgets the variable of a read that is waited for.
+// Forgets the variable that is set by what is waited for.
 fn forget_read(pending: &Pending, variables: &mut [Option<u32>])
     ensures { (before after : Variables) → KnowsVariables variables.old before → After (pending_of pending.now) before after → KnowsVariables variables.new after }
 {
@@ -195,7 +167,7 @@ fn forget_read(pending: &Pending, variables: &mut [Option<u32>])
         Pending::Cycle(_) => {}
         Pending::Read { variable, .. } => note(variables, *variable, None),
         Pending::Lock { .. } => {}
-        Pending::Transfer(_) => {}
+        Pending::Transfer(transfer) => note(variables, transfer.tally, None),
         Pending::Pause => {}
     }
 }
@@ -214,8 +186,12 @@ fn seen<T: Copy>(places: Places, all: &[T], i: usize) -> Option<T>
 fn see_variables(places: Places, all: &[u32], known: &mut [Option<u32>])
     ensures { KnowsVariables known.new (variables_in (held_at places all.now)) }
 {
-    'variables: for i in 0..known.len() {
+    let count = known.len().min(places.end);
+    'variables: for i in 0..count {
         known[i] = seen(places, all, i);
+    }
+    'others: for i in count..known.len() {
+        known[i] = None;
     }
 }
 
@@ -223,11 +199,15 @@ fn see_variables(places: Places, all: &[u32], known: &mut [Option<u32>])
 fn see_registers(places: Places, all: &[Option<Address>], known: &mut [Option<Address>])
     ensures { KnowsRegisters known.new (registers_in (held_at places all.now)) }
 {
-    'registers: for i in 0..known.len() {
+    let count = known.len().min(places.end);
+    'registers: for i in 0..count {
         known[i] = match seen(places, all, i) {
             Some(register) => register,
             None => None,
         };
+    }
+    'others: for i in count..known.len() {
+        known[i] = None;
     }
 }
 
@@ -264,7 +244,10 @@ fn add_after<const V: usize, const DEPTH: usize, const CAP: usize>(
 {
     match owner {
         Owner::Plain => true,
-        Owner::Locked(_) => false,
+        Owner::Locked(c) => match CrateNo::new(*c) {
+            Some(c) => coming.release(c),
+            None => false,
+        },
         Owner::For {
             variable,
             current,
@@ -324,11 +307,7 @@ fn add_statement(
             body,
             ..
         } => add_from(inside, *variable, *first, *last, body, known, coming),
-        Stmt::Call(call) => add_call(inside, call, known, coming),
-        Stmt::Lock { crate_no, body, .. } => {
-            add_lock(inside, crate_no, body, known, coming);
-            false
-        }
+        Stmt::Lock { crate_no, body, .. } => add_lock(inside, crate_no, body, known, coming),
         Stmt::If { test, then, .. } => add_if(inside, test, then, &[], known, coming),
         Stmt::IfElse {
             test,
@@ -336,31 +315,40 @@ fn add_statement(
             otherwise,
             ..
         } => add_if(inside, test, then, otherwise, known, coming),
-        _ => add_simple(inside, statement, known, coming),
+        Stmt::Action(action) => match action {
+            Action::Call(call) => add_call(inside, call, known, coming),
+            _ => add_action(inside, action, known, coming),
+        },
+        Stmt::While { .. } => forget(inside, statement, known, coming),
     }
 }
 
-// The same of a statement that holds no other.
-fn add_simple(inside: &Inside<'_>, statement: &Stmt, known: &mut Known, coming: &mut Coming) -> bool
+// The same of an action.
+fn add_action(inside: &Inside<'_>, action: &Action, known: &mut Known, coming: &mut Coming) -> bool
     requires { array_vec_len coming.old.ahead < 64 }
-    ensures { Adds inside.now.checked.now.plan (effect (context_of inside.now) most_turns (statement_of statement.now)) known.old coming.old.ahead.items result known.new coming.new.ahead.items }
+    ensures adds { Adds inside.now.checked.now.plan (effect (context_of inside.now) most_turns (action_of action.now)) known.old coming.old.ahead.items result known.new coming.new.ahead.items }
+    ensures size { AddsOfSize (size_of (action_of action.now)) coming.old.ahead.items coming.new.ahead.items }
 {
     match known_of(
         inside.checked,
-        statement,
+        action,
         &mut known.variables,
         &mut known.registers,
     ) {
         Sure::Makes(command) => {
-            coming.ahead.push(Wanted::Cycle(command));
+            let size = size_of_action(action);
+            coming
+                .ahead
+                .push(Member::Makes(Wanted::Cycle(command), size));
             true
         }
+        Sure::Transfers(block) => coming.transfer(block),
         Sure::NeedsNone => true,
         Sure::Unknown => false,
     }
 }
 
-// `lock`: adds taking it, and what its block surely makes. Its release ends a list.
+// `lock`: its block between taking and releasing it.
 #[cycle(walk)]
 fn add_lock(
     inside: &Inside<'_>,
@@ -368,18 +356,21 @@ fn add_lock(
     body: &[Stmt],
     known: &mut Known,
     coming: &mut Coming,
-)
+) -> bool
     requires { array_vec_len coming.old.ahead < 64 }
-    ensures { (spot : Spot) → Adds inside.now.checked.now.plan (effect (context_of inside.now) most_turns (locked spot (expression_of crate_no.now) (statements_of body.now))) known.old coming.old.ahead.items false known.new coming.new.ahead.items }
+    ensures { (spot : Spot) → Adds inside.now.checked.now.plan (effect (context_of inside.now) most_turns (locked spot (expression_of crate_no.now) (statements_of body.now))) known.old coming.old.ahead.items result known.new coming.new.ahead.items }
 {
     let Some(c) = crate_of(crate_no, &known.variables) else {
-        return;
+        return false;
     };
     if inside.depth == 0 {
-        return;
+        return false;
     }
     coming.lock(c);
-    add_block(&inside.within(inside.procedures), body, known, coming);
+    if !add_block(&inside.within(inside.procedures), body, known, coming) {
+        return false;
+    }
+    coming.release(c)
 }
 
 // `if`: the arm that is taken. If that is not known, none of both is to make an operation.
@@ -395,7 +386,8 @@ fn add_if(
     ensures { Adds inside.now.checked.now.plan (chooses (condition_of test.now) (block_meaning (context_of inside.now) most_turns (statements_of then.now)) (block_meaning (context_of inside.now) most_turns (statements_of otherwise.now))) known.old coming.old.ahead.items result known.new coming.new.ahead.items }
 {
     let Some(holds) = truth_of(test.parts.as_slice(), &known.variables) else {
-        return forget_block(then, known, coming) && forget_block(otherwise, known, coming);
+        return forget_block(inside, then, known, coming)
+            && forget_block(inside, otherwise, known, coming);
     };
     if inside.depth == 0 {
         return false;
@@ -405,51 +397,6 @@ fn add_if(
         add_block(&arm, then, known, coming)
     } else {
         add_block(&arm, otherwise, known, coming)
-    }
-}
-
-// Forgets what a block sets. Answers whether it makes no operation, by statements that hold no others but in an `if`.
-#[cycle(forget)]
-fn forget_block(block: &[Stmt], known: &mut Known, coming: &mut Coming) -> bool
-    ensures goes { (c : Context) → Goes c.plan (block_meaning c most_turns (statements_of block.now)) known.old [] result known.new }
-    ensures less { KnowsLess known.old known.new }
-    ensures none { coming.new ≡ record coming.old { steps = coming.new.steps } }
-{
-    'statements: for statement in block {
-        if !forget(statement, known, coming) {
-            return false;
-        }
-    }
-    true
-}
-
-// The same of a statement.
-#[cycle(forget)]
-fn forget(statement: &Stmt, known: &mut Known, coming: &mut Coming) -> bool
-    ensures goes { (c : Context) → Goes c.plan (λ s. effect c most_turns (statement_of statement.now) (stepped s)) known.old [] result known.new }
-    ensures less { KnowsLess known.old known.new }
-    ensures none { coming.new ≡ record coming.old { steps = coming.new.steps } }
-{
-    if !coming.step(1) {
-        return false;
-    }
-    match statement {
-        Stmt::Put(_) => true,
-        Stmt::Assign(assignment) => {
-            note(&mut known.variables, assignment.variable, None);
-            true
-        }
-        Stmt::SetRegister(setting) => {
-            note(&mut known.registers, setting.register, None);
-            true
-        }
-        Stmt::If { then, .. } => forget_block(then, known, coming),
-        Stmt::IfElse {
-            then,
-            otherwise,
-            ..
-        } => forget_block(then, known, coming) && forget_block(otherwise, known, coming),
-        _ => false,
     }
 }
 

@@ -1,7 +1,7 @@
 // Laws of every checked script: the headline, and what a runner holds and wants.
 
 ghost use Rattle.camac_run.specs.Abandoned.{AbandoningHolds};
-ghost use Rattle.camac_run.specs.Ahead.{AheadIsMade, BeginningsAreAhead};
+ghost use Rattle.camac_run.specs.Ahead.{AheadIsMade, BeginningsAreAhead, FirstIsWanted};
 ghost use Rattle.camac_run.specs.Back.{SettingBackHolds};
 ghost use Rattle.camac_run.specs.Holds.{AllIsTold, GoingOnHolds, ResumingHolds, WantsAreWanted};
 ghost use Rattle.camac_run.specs.Headline.{RunsAlways, RunsByHeadline, LeavesFewEvents};
@@ -9,7 +9,7 @@ ghost use Rattle.camac_run.specs.Requested.{RequestsAreSafe};
 ghost use Rattle.camac_run.specs.Transfer.{TransfersBegin, TransfersGoOn};
 ghost use Rattle.camac_run.specs.Waits.{WaitsDecide};
 
-use camac_checked::Checked;
+use camac_rules::Checked;
 
 /// The law that the headline is true of every run of this script (`always`), and of its event file where its events can be numbered. A run
 /// leaves no more events than it has answers.
@@ -52,11 +52,12 @@ pub fn setting_back_holds()
     ensures { SettingBackHolds }
 {}
 
-/// The run makes the operations that were told ahead, one for each answer, in their order, and no others; it wants each of them before its
-/// answer, and until the last answer no lockout is released and no event left. A caller may ask for fewer: any beginning of them is ahead, too.
-#[tactic(auto, using(crate::proofs::Coming::ahead_is_made, crate::proofs::Coming::beginnings_are_ahead))]
+/// The run does what was told ahead, in its order, and nothing else before its end: it makes each operation by an answer, the cycles of a block by theirs,
+/// and releases without one; and it wants each operation before its answer. A caller may ask for fewer: any beginning is ahead, too.
+#[tactic(auto, using(crate::proofs::Following::ahead_is_made, crate::proofs::Following::first_is_wanted, crate::proofs::Following::beginnings_are_ahead))]
 pub fn ahead_is_made()
     ensures made { AheadIsMade }
+    ensures wanted { FirstIsWanted }
     ensures beginnings { BeginningsAreAhead }
 {}
 

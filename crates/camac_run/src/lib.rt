@@ -4,18 +4,22 @@
 
 mod ahead;
 mod back;
+mod blocks;
 mod items;
 mod laws;
 mod leaving;
+mod list;
 mod log;
+mod member;
 mod place;
 mod progress;
 mod runner;
 mod service;
+mod size;
 mod sure;
 mod transfer;
 
-pub use ahead::{AHEAD, Ahead, service_ahead};
+pub use ahead::service_ahead;
 pub use back::Back;
 pub use camac_machine::Item;
 pub use items::Items;
@@ -23,8 +27,10 @@ pub use laws::{
     abandoning_holds, ahead_is_made, requests_are_safe, runner_holds_the_rest, runs_by_headline,
     setting_back_holds, transfers_go_on, waits_decide,
 };
+pub use list::{AHEAD, Ahead, Coming};
 pub use log::{Log, run};
+pub use member::Member;
 pub use place::Place;
 pub use progress::{End, Progress, Used, Wanted};
 pub use runner::{FullRunner, Runner};
-pub use transfer::{TransferLeft, TransferMode};
+pub use transfer::{ReadBlock, TransferLeft, TransferMode};

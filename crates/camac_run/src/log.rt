@@ -16,9 +16,9 @@ use crate::laws::runs_by_headline;
 use crate::progress::{End, Progress};
 use crate::runner::FullRunner;
 use camac_branch::Answer;
-use camac_checked::Checked;
 use camac_event::{Events, Usage, Version};
 use camac_machine::Item;
+use camac_rules::Checked;
 use camac_word::{CrateNo, GlBit, Word24};
 use std::alloc::{AllocError, Global};
 

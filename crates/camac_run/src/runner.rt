@@ -15,23 +15,27 @@ ghost use Rattle.camac_run.specs.Holds.{HoldsAfter};
 ghost use Rattle.camac_run.specs.Operation.{IsWaiting, Wants, operation};
 ghost use Rattle.camac_run.specs.Place.{IsPlace};
 ghost use Rattle.camac_run.specs.Requested.{IsSafeRequest, held_in};
+ghost use Rattle.camac_run.specs.Size.{size_in};
 ghost use Rattle.camac_run.specs.Sure.{one_operation};
-ghost use Rattle.camac_run.specs.Transfer.{IsLeft, is_transfer};
+ghost use Rattle.camac_run.specs.Transfer.{CanGoOn, IsBlockOf, IsLeft, is_transfer};
 ghost use Rattle.camac_run.specs.Waits.{GoesOnUpTo, waits_in, waits_of};
 
-use crate::ahead::{Ahead, Coming, add_following};
+use crate::ahead::add_following;
 use crate::back::{Back, commands_back};
 use crate::leaving::leave_service;
+use crate::list::Coming;
+use crate::member::Member;
 use crate::place::Place;
 use crate::progress::{Progress, Used, Wanted};
 use crate::service::service_for;
-use crate::transfer::{TransferLeft, left_of};
+use crate::size::size_of;
+use crate::transfer::{ReadBlock, TransferLeft, left_of};
 use arrayvec::ArrayVec;
 use camac_branch::{Answer, Branch, Overrun, demand, locked};
-use camac_checked::Checked;
 use camac_event::Usage;
-use camac_lang::limits;
+use camac_lang::{WordSize, limits};
 use camac_machine::{Item, Machine, NO_PAUSE, Pending};
+use camac_rules::Checked;
 use camac_word::{CrateNo, GlBit, Word24};
 use std::marker::Model;
 
@@ -64,7 +68,7 @@ pub type FullRunner<'a> = Runner<
 
 impl<'a, const V: usize, const DEPTH: usize, const CAP: usize> Model for Runner<'a, V, DEPTH, CAP> {
     ghost use Rattle.std.specs.Coded.{codes};
-    ghost use Rattle.camac_checked.specs.Checked.{checked_coded};
+    ghost use Rattle.camac_rules.specs.Checked.{checked_coded};
     ghost use Rattle.camac_machine.proofs.Codes.{want_coded, open_coded, statement_coded};
     ghost use Rattle.camac_run.specs.Runner.{RunnerState};
     ghost use Rattle.camac_run.specs.Sound.{runner_state, IsSound};
@@ -325,6 +329,13 @@ impl<'a, const V: usize, const DEPTH: usize, const CAP: usize> Runner<'a, V, DEP
         }
     }
 
+    /// Whether a crate is locked.
+    pub fn is_locked(&self, c: CrateNo) -> bool
+        ensures { result ≡ held_in self.now c }
+    {
+        locked(&self.machine.branch, c)
+    }
+
     // The same in a crate.
     fn waits_in(&self, c: CrateNo) -> u8
         ensures { result ≡ waits_in self.now c }
@@ -336,24 +347,33 @@ impl<'a, const V: usize, const DEPTH: usize, const CAP: usize> Runner<'a, V, DEP
         }
     }
 
-    /// The operations that come next, whatever is answered: what the run wants now, and what surely follows it, `AHEAD` at most. None after
-    /// a wait that was not permitted, and while the run pauses.
-    pub fn ahead(&self) -> Ahead
-        ensures { IsAhead self.now result.items }
+    /// What comes next, whatever is answered: the operation that the run wants now, and what surely follows it, `AHEAD` at most; with blocks and releases,
+    /// if the list may go so far. None after a wait that was not permitted, and while the run pauses.
+    pub fn ahead(&self, far: bool, coming: &mut Coming)
+        ensures { IsAhead self.now coming.new.ahead.items }
     {
-        let mut coming = Coming::nothing();
+        coming.begin(far);
         let Some(first) = self.wants() else {
-            return coming.ahead;
+            return;
         };
-        coming.ahead.push(first);
+        let size = self.word_size();
         let Some(pending) = &self.pending else {
-            return coming.ahead;
+            coming.ahead.push(Member::Makes(first, size));
+            return;
         };
-        if !is_one(pending) {
-            return coming.ahead;
+        if is_one(pending) {
+            coming.ahead.push(Member::Makes(first, size));
+            add_following(&self.machine, pending, coming);
+            return;
         }
-        add_following(&self.machine, pending, &mut coming);
-        coming.ahead
+        if far {
+            if let Some(block) = block_of(pending) {
+                coming.ahead.push(Member::Block(block));
+                add_following(&self.machine, pending, coming);
+                return;
+            }
+        }
+        coming.ahead.push(Member::Makes(first, size));
     }
 
     /// What is left of the transfer whose cycle the service in progress waits for; none where it waits for something else.
@@ -392,6 +412,19 @@ impl<'a, const V: usize, const DEPTH: usize, const CAP: usize> Runner<'a, V, DEP
             Some(self.place())
         } else {
             None
+        }
+    }
+
+    /// Of how many bits the words are that the next answer's cycle moves: 16 where the statement of `at` is `cssa`, else 24.
+    pub fn word_size(&self) -> WordSize
+        ensures { result ≡ size_in self.now }
+    {
+        if !self.is_asking() {
+            return WordSize::Full;
+        }
+        match self.machine.begun {
+            Some(begun) => size_of(begun),
+            None => WordSize::Full,
         }
     }
 
@@ -523,5 +556,19 @@ fn is_one(pending: &Pending) -> bool
         Pending::Lock { .. } => true,
         Pending::Transfer(_) => false,
         Pending::Pause => false,
+    }
+}
+
+// What is left of a transfer that reads, if that is waited for.
+fn block_of(pending: &Pending) -> Option<ReadBlock>
+    requires { CanGoOn pending.now }
+    ensures { IfSome result (IsBlockOf pending.now) }
+{
+    match pending {
+        Pending::Cycle(_) => None,
+        Pending::Read { .. } => None,
+        Pending::Lock { .. } => None,
+        Pending::Transfer(transfer) => left_of(transfer).read_block(),
+        Pending::Pause => None,
     }
 }

@@ -1,13 +1,13 @@
 // The service that a graded-L operation calls (own; IEEE 596 has the operation alone).
 
 ghost use Rattle.std.specs.Prelude.{◌≡◌, ◌≤◌, ◌<◌, ◌-◌, ◌/◌, ◌^◌, nat_eq, length, Some, IfSome, option_and_then};
-ghost use Rattle.camac_checked.specs.Checked.{linked_of};
+ghost use Rattle.camac_rules.specs.Checked.{linked_of};
 ghost use Rattle.camac_model.specs.Meaning.{context};
 ghost use Rattle.camac_model.specs.Run.{is_bit_set, with_bit, first_service, service_for};
 ghost use Rattle.camac_names.specs.Linked.{bit_of_service};
 ghost use Rattle.camac_run.specs.Called.{chosen_of};
 
-use camac_checked::Checked;
+use camac_rules::Checked;
 use camac_word::{GlBit, Word24};
 
 const BIT_END: u32 = 25;

@@ -1,59 +1,73 @@
 // What a statement surely does, and whether a condition surely holds, by what is known of variables and registers.
 
-ghost use Rattle.std.specs.Prelude.{◌≡◌, ℕ, List, Option, None, IfSome, true, map, set, slice_index_or};
+ghost use Rattle.std.specs.Prelude.{◌≡◌, ℕ, List, [], Option, None, IfSome, true, map, set, slice_index_or};
 ghost use Rattle.camac_branch.specs.Address.{Address as At};
 ghost use Rattle.camac_esone.specs.Calls.{command_at};
-ghost use Rattle.camac_lang.specs.View.{crate_action_of, expression_of, lam_action_of, part_of, single_of, statement_of, test_of};
-ghost use Rattle.camac_model.specs.Meaning.{Context, fits_size};
+ghost use Rattle.camac_lang.specs.View.{action_of, call_of, crate_action_of, expression_of, for_of, lam_action_of, part_of, single_of, statement_of, statements_of, test_of};
+ghost use Rattle.camac_model.specs.Fine.{most_turns};
+ghost use Rattle.camac_model.specs.Meaning.{Context, block_meaning, effect, fits_size};
+ghost use Rattle.camac_model.specs.State.{stepped};
 ghost use Rattle.camac_model.specs.Value.{part_value, test_value, truth};
 ghost use Rattle.camac_range.specs.Compare.{compared};
-ghost use Rattle.camac_run.specs.Sure.{HasTruth, HasValue, IsSure, MakesCycle, context_before, sure_of};
+ghost use Rattle.camac_run.specs.Sure.{Goes, HasTruth, HasValue, IsSure, KnowsLess, MakesCycle, context_before, context_of, sure_of, transfer_of};
+ghost use Rattle.camac_run.specs.declared.ahead.Known.{Known};
 
+use crate::ahead::{Inside, Known};
+use crate::blocks::{q_repeat_block, q_stop_block, scan_block};
+use crate::list::Coming;
+use crate::transfer::ReadBlock;
 use camac_branch::Command;
-use camac_checked::Checked;
 use camac_esone::{Address, crate_call, lam_function};
 use camac_func::DataMove;
 use camac_lang::{
-    CrateAction, Expr, Form, LamAction, Move, Part, RegisterSetting, SingleAction, Stmt, Test,
-    WordSize,
+    Action, CrateAction, Expr, ForHead, Form, LamAction, Move, Part, ProcedureCall,
+    RegisterSetting, SingleAction, Stmt, Test, WordSize,
 };
 use camac_range::Cmp;
+use camac_rules::Checked;
 use camac_word::{CrateNo, Function, Station, SubAddress, Word24};
 
-/// What a statement that holds no other surely does.
+/// What an action surely does.
 pub enum Sure {
     /// It makes this cycle.
     Makes(Command),
+    /// It makes the cycles of this block.
+    Transfers(ReadBlock),
     /// It needs no answer.
     NeedsNone,
     /// That is not known.
     Unknown,
 }
 
-// What a statement surely does. What is known is that before it, and then that after it.
+// What an action surely does. What is known is that before it, and then that after it.
 pub fn known_of(
     checked: &Checked,
-    statement: &Stmt,
+    action: &Action,
     variables: &mut [Option<u32>],
     registers: &mut [Option<Address>],
 ) -> Sure
-    ensures { (i : ℕ) → IsSure (context_before checked.now i) variables.old registers.old (statement_of statement.now) result variables.new registers.new }
+    ensures { (i : ℕ) → IsSure (context_before checked.now i) variables.old registers.old (action_of action.now) result variables.new registers.new }
 {
-    match statement {
-        Stmt::Put(_) => Sure::NeedsNone,
-        Stmt::Assign(assignment) => {
+    match action {
+        Action::Put(_) => Sure::NeedsNone,
+        Action::Assign(assignment) => {
             let value = value_of(&assignment.value, variables);
             note(variables, assignment.variable, value);
             Sure::NeedsNone
         }
-        Stmt::SetRegister(setting) => {
+        Action::SetRegister(setting) => {
             let at = address_of(setting, variables);
             note(registers, setting.register, at);
             Sure::NeedsNone
         }
-        Stmt::Single(action) => made(single(action, variables, registers)),
-        Stmt::CrateCall(action) => made(call_of_crate(action, variables)),
-        Stmt::LamCall(action) => made(call_of_lam(checked, action)),
+        Action::Single(action) => made(single(action, variables, registers)),
+        Action::CrateCall(action) => made(call_of_crate(action, variables)),
+        Action::LamCall(action) => made(call_of_lam(checked, action)),
+        Action::Scan(scan) => transfers(scan_block(scan, variables, registers)),
+        Action::QStop { transfer } => transfers(q_stop_block(transfer, variables, registers)),
+        Action::QRepeat { transfer, limit } => {
+            transfers(q_repeat_block(transfer, limit, variables, registers))
+        }
         _ => Sure::Unknown,
     }
 }
@@ -64,6 +78,16 @@ fn made(cycle: Option<Command>) -> Sure
 {
     match cycle {
         Some(command) => Sure::Makes(command),
+        None => Sure::Unknown,
+    }
+}
+
+// The block of a statement, if it is known.
+fn transfers(block: Option<ReadBlock>) -> Sure
+    ensures { result ≡ transfer_of block }
+{
+    match block {
+        Some(block) => Sure::Transfers(block),
         None => Sure::Unknown,
     }
 }
@@ -140,7 +164,7 @@ pub fn crate_of(e: &Expr, known: &[Option<u32>]) -> Option<CrateNo>
 }
 
 // What is known at a place.
-fn at_place<T: Copy>(known: &[Option<T>], place: usize) -> Option<T>
+pub fn at_place<T: Copy>(known: &[Option<T>], place: usize) -> Option<T>
     ensures { result ≡ slice_index_or known.now place None }
 {
     if place < known.len() {
@@ -228,7 +252,7 @@ fn call_of_lam(checked: &Checked, action: &LamAction) -> Option<Command>
 }
 
 // The command that moves this at an address, if there is such an address.
-fn command_at(at: Address, f: Function, mv: DataMove) -> Option<Command>
+pub fn command_at(at: Address, f: Function, mv: DataMove) -> Option<Command>
     ensures { IfSome result (λ k. k ≡ command_at at f mv) }
 {
     Some(Command {
@@ -246,4 +270,151 @@ pub fn note<T: Copy>(known: &mut [Option<T>], place: usize, value: Option<T>)
     if place < known.len() {
         known[place] = value;
     }
+}
+
+/// Forgets what a block sets. Answers whether it makes no operation, nor more steps than may be looked ahead.
+#[cycle(forget)]
+pub fn forget_block(
+    inside: &Inside<'_>,
+    block: &[Stmt],
+    known: &mut Known,
+    coming: &mut Coming,
+) -> bool
+    ensures keeps { (k : Known) → KnowsLess known.new k → Goes inside.now.checked.now.plan (block_meaning (context_of inside.now) most_turns (statements_of block.now)) k [] result k }
+    ensures less { KnowsLess known.old known.new }
+    ensures none { coming.new ≡ record coming.old { steps = coming.new.steps } }
+{
+    'statements: for statement in block {
+        if !forget(inside, statement, known, coming) {
+            return false;
+        }
+    }
+    true
+}
+
+/// The same of a statement from its beginning on.
+#[cycle(forget)]
+pub fn forget(inside: &Inside<'_>, statement: &Stmt, known: &mut Known, coming: &mut Coming) -> bool
+    ensures keeps { (k : Known) → KnowsLess known.new k → Goes inside.now.checked.now.plan (λ s. effect (context_of inside.now) most_turns (statement_of statement.now) (stepped s)) k [] result k }
+    ensures less { KnowsLess known.old known.new }
+    ensures none { coming.new ≡ record coming.old { steps = coming.new.steps } }
+{
+    if inside.depth == 0 || !coming.step(1) {
+        return false;
+    }
+    let arm = inside.within(inside.procedures);
+    match statement {
+        Stmt::Action(action) => forget_action(inside, action, known, coming),
+        Stmt::If { then, .. } => forget_block(&arm, then, known, coming),
+        Stmt::IfElse {
+            then,
+            otherwise,
+            ..
+        } => {
+            forget_block(&arm, then, known, coming) && forget_block(&arm, otherwise, known, coming)
+        }
+        Stmt::For { head, body } => forget_for(&arm, head, body, known, coming),
+        Stmt::ForEach {
+            variable,
+            first,
+            last,
+            body,
+            ..
+        } => {
+            note(&mut known.variables, *variable, None);
+            forget_turns(&arm, last.saturating_sub(*first), body, known, coming)
+        }
+        Stmt::While { head, body } => {
+            forget_turns(&arm, head.turns.saturating_sub(1), body, known, coming)
+        }
+        Stmt::Lock { .. } => false,
+    }
+}
+
+// The same of an action.
+#[cycle(forget)]
+fn forget_action(
+    inside: &Inside<'_>,
+    action: &Action,
+    known: &mut Known,
+    coming: &mut Coming,
+) -> bool
+    ensures keeps { (k : Known) → KnowsLess known.new k → Goes inside.now.checked.now.plan (effect (context_of inside.now) most_turns (action_of action.now)) k [] result k }
+    ensures less { KnowsLess known.old known.new }
+    ensures none { coming.new ≡ record coming.old { steps = coming.new.steps } }
+{
+    match action {
+        Action::Put(_) => true,
+        Action::Assign(assignment) => {
+            note(&mut known.variables, assignment.variable, None);
+            true
+        }
+        Action::SetRegister(setting) => {
+            note(&mut known.registers, setting.register, None);
+            true
+        }
+        Action::Call(call) => forget_call(inside, call, coming),
+        _ => false,
+    }
+}
+
+// `call`: its caller's variables and registers are as before.
+#[cycle(forget)]
+fn forget_call(inside: &Inside<'_>, call: &ProcedureCall, coming: &mut Coming) -> bool
+    ensures keeps { (k : Known) → Goes inside.now.checked.now.plan (effect (context_of inside.now) most_turns (call_of call.now)) k [] result k }
+    ensures none { coming.new ≡ record coming.old { steps = coming.new.steps } }
+{
+    let procedures = inside.checked.script().procedures();
+    let number = call.procedure;
+    if number >= inside.procedures || number >= procedures.len() || inside.depth == 0 {
+        return false;
+    }
+    let callee = &procedures[number];
+    let mut entered = Known::nothing();
+    let body = callee.body.as_slice();
+    forget_block(&inside.within(number), body, &mut entered, coming)
+}
+
+// `for` between two literals, since another number may be a new one the next time.
+#[cycle(forget)]
+fn forget_for(
+    inside: &Inside<'_>,
+    head: &ForHead,
+    body: &[Stmt],
+    known: &mut Known,
+    coming: &mut Coming,
+) -> bool
+    ensures keeps { (k : Known) → KnowsLess known.new k → Goes inside.now.checked.now.plan (effect (context_of inside.now) most_turns (for_of head.now (statements_of body.now))) k [] result k }
+    ensures less { KnowsLess known.old known.new }
+    ensures none { coming.new ≡ record coming.old { steps = coming.new.steps } }
+{
+    let Some(first) = value_of(&head.from, &[]) else {
+        return false;
+    };
+    let Some(last) = value_of(&head.to, &[]) else {
+        return false;
+    };
+    note(&mut known.variables, head.variable, None);
+    forget_turns(inside, last.saturating_sub(first), body, known, coming)
+}
+
+// The body of a loop, which has so many further turns at most: their steps are made, too.
+#[cycle(forget)]
+fn forget_turns(
+    inside: &Inside<'_>,
+    further: u32,
+    body: &[Stmt],
+    known: &mut Known,
+    coming: &mut Coming,
+) -> bool
+    ensures keeps { (k : Known) → KnowsLess known.new k → Goes inside.now.checked.now.plan (block_meaning (context_of inside.now) most_turns (statements_of body.now)) k [] result k }
+    ensures less { KnowsLess known.old known.new }
+    ensures none { coming.new ≡ record coming.old { steps = coming.new.steps } }
+{
+    let before = coming.steps;
+    if !coming.step(1) || !forget_block(inside, body, known, coming) {
+        return false;
+    }
+    let turn = before.saturating_sub(coming.steps);
+    coming.step(further.saturating_mul(turn) as usize)
 }

@@ -1,11 +1,11 @@
 // What is left of the transfer in which a run stands.
 
-ghost use Rattle.std.specs.Prelude.{◌≡◌, ◌<◌, ◌∷◌, [], Some, is_some};
+ghost use Rattle.std.specs.Prelude.{◌≡◌, ◌<◌, ◌∷◌, [], IfSome, Some, is_some};
 ghost use Rattle.camac_esone.specs.InProgress.{q_repeat_left, q_stop_left, scan_left};
 ghost use Rattle.camac_esone.specs.Transfers.{is_by, successor};
 ghost use Rattle.camac_machine.specs.Course.{left_at, words_from, words_sent};
 ghost use Rattle.camac_machine.specs.Rest.{address_of};
-ghost use Rattle.camac_run.specs.Transfer.{Leaves, next_in, window};
+ghost use Rattle.camac_run.specs.Transfer.{Leaves, left_by, next_in, window};
 
 use camac_branch::Command;
 use camac_esone::{Address, QRepeat, QStop, Scan};
@@ -39,7 +39,37 @@ pub struct TransferLeft<'a> {
     pub table: Option<&'a [Word24]>,
 }
 
+/// What is left of a transfer that reads (own).
+#[derive(Clone, Copy)]
+pub struct ReadBlock {
+    pub mode: TransferMode,
+    /// Its next cycle.
+    pub first: Command,
+    /// The final address of a scan, else that of the next cycle.
+    pub last: Address,
+    /// How many further cycles there are at most.
+    pub cycles: u32,
+    /// How many of them have Q=1 at most.
+    pub words: u32,
+}
+
 impl<'a> TransferLeft<'a> {
+    /// The same without the table; none of one that writes.
+    pub fn read_block(&self) -> Option<ReadBlock>
+        ensures { IfSome result (λ b. self.now ≡ left_by b) }
+    {
+        match self.table {
+            Some(_) => None,
+            None => Some(ReadBlock {
+                mode: self.mode,
+                first: self.first,
+                last: self.last,
+                cycles: self.cycles,
+                words: self.words,
+            }),
+        }
+    }
+
     /// Whether there is another cycle after the next one, if that has this Q.
     pub fn goes_on(&self, q: bool) -> bool
         ensures { result ≡ is_some (next_in self.now (q ∷ [])) }
@@ -72,8 +102,8 @@ impl<'a> TransferLeft<'a> {
     }
 }
 
-// Whether an address is not past the final one.
-fn is_by(last: &Address, at: &Address) -> bool
+/// Whether an address is not past the final one.
+pub fn is_by(last: &Address, at: &Address) -> bool
     ensures { result ≡ is_by last.now at.now }
 {
     at.n < last.n || (at.n == last.n && at.a <= last.a)
@@ -91,8 +121,8 @@ fn command_address(command: &Command) -> Address
     }
 }
 
-// How many addresses there are from the first to the last, with 16 at each station.
-fn window(first: &Address, last: &Address) -> u32
+/// How many addresses there are from the first to the last, with 16 at each station.
+pub fn window(first: &Address, last: &Address) -> u32
     ensures { result ≡ window first.now last.now }
 {
     let end = 16 * u64::from(last.n) + u64::from(last.a) + 1;

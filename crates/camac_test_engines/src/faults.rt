@@ -1,11 +1,11 @@
 // Reads and writes of `camac check`, `plan` and `events` that fail, each in turn.
 
+use camac_engines::{
+    Outcome, PlanSource, ToolFault, engine_check, engine_events, engine_plan, status,
+};
 use camac_test_fixtures::fakes::{Broken, Narrow, WhenFull};
 use camac_test_fixtures::texts::{
     FILE_ONE, FILE_TWO, LISTING_ONE, LISTING_TWO, SAMPLE, SAMPLE_LISTING, STRAIGHT_LINE, VERDICT,
-};
-use camac_tool::{
-    Outcome, PlanSource, ToolFault, engine_check, engine_events, engine_plan, status,
 };
 use camac_word::Watched;
 use std::alloc::Global;
@@ -27,7 +27,7 @@ fn expect_check_full(
     room: usize,
     when_full: WhenFull,
 ) -> Result<(), Fail> {
-    let mut plan = PlanSource::<&[u8]>::Sample;
+    let mut plan = PlanSource::<Watched<&[u8]>>::Sample;
     let mut script = Watched::new(STRAIGHT_LINE);
     let mut out = narrow(rt.alloc(), room, when_full);
     let answer = engine_check(rt.alloc(), &mut plan, &mut script, &mut out);
@@ -47,7 +47,7 @@ fn check_fails_at_each_write(rt: HostRuntime) -> Result<(), Fail> {
 
 #[test]
 fn check_writes_a_byte_at_a_time(rt: HostRuntime) -> Result<(), Fail> {
-    let mut plan = PlanSource::<&[u8]>::Sample;
+    let mut plan = PlanSource::<Watched<&[u8]>>::Sample;
     let mut script = Watched::new(STRAIGHT_LINE);
     let mut out = narrow(rt.alloc(), VERDICT.len(), WhenFull::Error);
     let answer = engine_check(rt.alloc(), &mut plan, &mut script, &mut out);
@@ -59,7 +59,7 @@ fn check_writes_a_byte_at_a_time(rt: HostRuntime) -> Result<(), Fail> {
 #[test]
 fn check_fails_at_each_read(rt: HostRuntime) -> Result<(), Fail> {
     for prefix in 0..STRAIGHT_LINE.len() {
-        let mut plan = PlanSource::<&[u8]>::Sample;
+        let mut plan = PlanSource::<Watched<&[u8]>>::Sample;
         let mut script = Watched::new(Broken {
             bytes: &STRAIGHT_LINE[..prefix],
         });
@@ -78,7 +78,7 @@ fn expect_plan_full(
     room: usize,
     when_full: WhenFull,
 ) -> Result<(), Fail> {
-    let mut plan = PlanSource::<&[u8]>::Sample;
+    let mut plan = PlanSource::<Watched<&[u8]>>::Sample;
     let mut out = narrow(rt.alloc(), room, when_full);
     let answer = engine_plan(rt.alloc(), &mut plan, &mut out);
     assert!(rt; answer == Err(ToolFault::Write));
@@ -99,7 +99,7 @@ fn plan_fails_at_each_write(rt: HostRuntime) -> Result<(), Fail> {
 
 #[test]
 fn plan_writes_a_byte_at_a_time(rt: HostRuntime) -> Result<(), Fail> {
-    let mut plan = PlanSource::<&[u8]>::Sample;
+    let mut plan = PlanSource::<Watched<&[u8]>>::Sample;
     let mut out = narrow(rt.alloc(), SAMPLE_LISTING.len(), WhenFull::Error);
     let answer = engine_plan(rt.alloc(), &mut plan, &mut out);
     assert!(rt; answer == Ok(Outcome::Good));

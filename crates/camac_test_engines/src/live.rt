@@ -1,9 +1,10 @@
 // What `camac drive @sample` asks for, and what it leaves where a reader or writer fails.
 
 use crate::faults::narrow;
+use camac_engines::{Outcome, PlanSource, ToolFault};
 use camac_test_fixtures::fakes::{Broken, WhenFull};
 use camac_test_fixtures::texts::{ANSWERS, FILE_TWO, NO_EVENTS, STRAIGHT_LINE};
-use camac_tool::{Outcome, PlanSource, ToolFault, engine_drive};
+use camac_tool_run::engine_drive;
 use camac_word::Watched;
 use std::alloc::Global;
 use std::io::Read;
@@ -21,7 +22,7 @@ fn drive<R: Read + Drop>(
     alloc: Global,
     answers: R,
 ) -> (Result<Outcome, ToolFault>, Vec<u8>, Vec<u8>) {
-    let mut plan = PlanSource::<&[u8]>::Sample;
+    let mut plan = PlanSource::<Watched<&[u8]>>::Sample;
     let mut script = Watched::new(STRAIGHT_LINE);
     let mut answers = Watched::new(answers);
     let mut requests = Watched::new(Vec::new(alloc));
@@ -63,7 +64,7 @@ fn live_answers_fail(rt: HostRuntime) -> Result<(), Fail> {
 #[test]
 fn live_requests_fail(rt: HostRuntime) -> Result<(), Fail> {
     for room in 0..REQUESTS.len() {
-        let mut plan = PlanSource::<&[u8]>::Sample;
+        let mut plan = PlanSource::<Watched<&[u8]>>::Sample;
         let mut script = Watched::new(STRAIGHT_LINE);
         let mut answers = Watched::new(ANSWERS);
         let mut requests = narrow(rt.alloc(), room, WhenFull::Error);

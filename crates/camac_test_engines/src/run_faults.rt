@@ -1,10 +1,11 @@
 // A run's reads and writes that fail.
 
 use crate::faults::narrow;
+use camac_engines::{Outcome, PlanSource, ToolFault};
 use camac_play::event_file_is_sent;
 use camac_test_fixtures::fakes::{Broken, WhenFull};
 use camac_test_fixtures::texts::{ANSWERS, FILE_TWO, LISTING, STRAIGHT_LINE};
-use camac_tool::{Outcome, PlanSource, ToolFault, engine_run};
+use camac_tool_run::engine_run;
 use camac_word::Watched;
 use std::alloc::Global;
 use std::process::Abort;
@@ -18,7 +19,7 @@ fn run_into(
     events: usize,
     when_full: WhenFull,
 ) -> (Result<Outcome, ToolFault>, Vec<u8>, Vec<u8>) {
-    let mut plan = PlanSource::<&[u8]>::Sample;
+    let mut plan = PlanSource::<Watched<&[u8]>>::Sample;
     let mut script = Watched::new(STRAIGHT_LINE);
     let mut answers = Watched::new(answers);
     let mut out = narrow(alloc, listing, when_full);
@@ -73,7 +74,7 @@ fn events_fail_after_5(rt: HostRuntime) -> Result<(), Fail> {
 
 #[test]
 fn answers_fail_after_line_1(rt: HostRuntime) -> Result<(), Fail> {
-    let mut plan = PlanSource::<&[u8]>::Sample;
+    let mut plan = PlanSource::<Watched<&[u8]>>::Sample;
     let mut script = Watched::new(STRAIGHT_LINE);
     let mut answers = Watched::new(Broken {
         bytes: &ANSWERS[..20],

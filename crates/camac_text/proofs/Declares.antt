@@ -4,7 +4,7 @@ use Rattle.std.proofs.lemmas.Bool.{ltb-true}
 use Rattle.camac_lang.specs.Tests.{is_name, is_new, is_number, is_sub_address}
 use Rattle.camac_lang.specs.Tree.{Statement, Lam}
 use Rattle.camac_tokens.specs.declared.fault.Limit.TheVariants as limit
-use Rattle.camac_tokens.specs.declared.fault.TextCase.TheVariants as told
+use Rattle.camac_tokens.specs.declared.fault.TextCase.TheVariants as text_case
 use Rattle.camac_tokens.specs.declared.token.Keyword.TheVariants as word
 use Rattle.camac_tokens.specs.declared.token.TokenKind.{TokenKind}
 use Rattle.camac_tokens.specs.declared.token.TokenKind.TheVariants as kind
@@ -94,7 +94,7 @@ lam_is : (s : State) (k : TokenKind) (spot : Spot) (y : Unit {0} × State) → k
 unfolding lam_declaration
 lam_is s k spot y next e =
     let t : State = past s in
-    let c0 = check_ok (nat_lt (length s.lams) 64) (told.Limit limit.Lams) _ s y e in
+    let c0 = check_ok (nat_lt (length s.lams) 64) (text_case.Limit limit.Lams) _ s y e in
     let a = then_ok (new_name t) _ y c0.1 in
     let h = new_name_ok t a.0 a.1 in
     let u : State = past a.0.1 in
@@ -149,7 +149,7 @@ service_is : (s : State) (k : TokenKind) (spot : Spot) (y : Unit {0} × State) �
 unfolding service_declaration
 service_is s k spot y next e =
     let t : State = past s in
-    let c0 = check_ok (nat_lt (length s.services) 24) (told.Limit limit.Services) _ s y e in
+    let c0 = check_ok (nat_lt (length s.services) 24) (text_case.Limit limit.Services) _ s y e in
     let a = then_ok (used_lam t) _ y c0.1 in
     let lam = used_lam_ok t a.0 a.1 in
     let b = then_ok (expect word.Within a.0.1) _ y a.2 in

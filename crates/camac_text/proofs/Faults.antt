@@ -5,7 +5,7 @@ use Rattle.std.specs.Prelude.{is_none}
 use Rattle.camac_lang.specs.Tree.{Text, Statement, Parameter, Lam, Table, Script}
 use Rattle.camac_lang.specs.declared.spot.Spot.{Spot}
 use Rattle.camac_tokens.specs.declared.fault.Limit.TheVariants as limit
-use Rattle.camac_tokens.specs.declared.fault.TextCase.TheVariants as told
+use Rattle.camac_tokens.specs.declared.fault.TextCase.TheVariants as text_case
 use Rattle.camac_tokens.specs.declared.token.Keyword.TheVariants as word
 use Rattle.camac_tokens.specs.declared.token.Sign.TheVariants as sign
 use Rattle.camac_tokens.specs.declared.token.TokenKind.TheVariants as kind
@@ -120,8 +120,8 @@ local_opened x s = local_then (change (in_heading x)) (λ _. ask (λ w. length w
 pub begins_procedure : (spot : Spot) (s : State) → IsHere s → Begins (procedure_declaration spot) s
 unfolding procedure_declaration
 begins_procedure spot s here =
-    begins_ask (λ u. u.procedures) (λ w ts n. refl) (λ known. check (nat_lt (length known) 16) (told.Limit limit.Procedures) >> (advance >> (new_name >>= λ x. advance >> after_name spot x))) s
-    (begins_check (nat_lt (length s.procedures) 16) (told.Limit limit.Procedures) (advance >> (new_name >>= λ x. advance >> after_name spot x)) s refl tt (λ _.
+    begins_ask (λ u. u.procedures) (λ w ts n. refl) (λ known. check (nat_lt (length known) 16) (text_case.Limit limit.Procedures) >> (advance >> (new_name >>= λ x. advance >> after_name spot x))) s
+    (begins_check (nat_lt (length s.procedures) 16) (text_case.Limit limit.Procedures) (advance >> (new_name >>= λ x. advance >> after_name spot x)) s refl tt (λ _.
     begins_then advance (λ _. new_name >>= λ x. advance >> after_name spot x) s (begins_advance s here) (λ _ u.
     local_new_name (λ x. advance >> after_name spot x) u (λ x u at.
     begins_then advance (λ _. after_name spot x) u (begins_advance u (kind.Name x, at)) (λ _ u.
@@ -131,18 +131,18 @@ begins_procedure spot s here =
 
 -- Readers of tables are local.
 
-begins_from_word : (count n : ℕ) (s : State) → kind_of s.rest ≡ Some (kind.Number n) → Begins (check (nat_lt n 16777216) (told.Number 16777215) >> (check (nat_lt count 1024) (told.Limit limit.TableWords) >> (advance >> give n))) s
+begins_from_word : (count n : ℕ) (s : State) → kind_of s.rest ≡ Some (kind.Number n) → Begins (check (nat_lt n 16777216) (text_case.Number 16777215) >> (check (nat_lt count 1024) (text_case.Limit limit.TableWords) >> (advance >> give n))) s
 begins_from_word count n s at =
-    begins_check (nat_lt n 16777216) (told.Number 16777215) (check (nat_lt count 1024) (told.Limit limit.TableWords) >> (advance >> give n)) s refl (n, at) (λ _.
-    begins_check (nat_lt count 1024) (told.Limit limit.TableWords) (advance >> give n) s refl tt (λ _. begins_take n s (kind.Number n, at)))
+    begins_check (nat_lt n 16777216) (text_case.Number 16777215) (check (nat_lt count 1024) (text_case.Limit limit.TableWords) >> (advance >> give n)) s refl (n, at) (λ _.
+    begins_check (nat_lt count 1024) (text_case.Limit limit.TableWords) (advance >> give n) s refl tt (λ _. begins_take n s (kind.Number n, at)))
 
 begins_word : (count : ℕ) (s : State) (n : ℕ) → kind_of s.rest ≡ Some (kind.Number n) → Begins (word_after count) s
 unfolding word_after
-begins_word count s n at = begins_numbered (λ n. check (nat_lt n 16777216) (told.Number 16777215) >> (check (nat_lt count 1024) (told.Limit limit.TableWords) >> (advance >> give n))) s n at (begins_from_word count n s at)
+begins_word count s n at = begins_numbered (λ n. check (nat_lt n 16777216) (text_case.Number 16777215) >> (check (nat_lt count 1024) (text_case.Limit limit.TableWords) >> (advance >> give n))) s n at (begins_from_word count n s at)
 
 local_word : (count : ℕ) (s : State) → IsLocal (word_after count) s
 unfolding word_after
-local_word count s = local_numbered (λ n. check (nat_lt n 16777216) (told.Number 16777215) >> (check (nat_lt count 1024) (told.Limit limit.TableWords) >> (advance >> give n))) s (begins_from_word count)
+local_word count s = local_numbered (λ n. check (nat_lt n 16777216) (text_case.Number 16777215) >> (check (nat_lt count 1024) (text_case.Limit limit.TableWords) >> (advance >> give n))) s (begins_from_word count)
 
 local_words : (s : State) → IsLocal table_words s
 unfolding table_words
@@ -157,8 +157,8 @@ made_table spot x ws = record { spot = spot; name = x; words = ws }
 pub begins_table : (spot : Spot) (s : State) → IsHere s → Begins (table_declaration spot) s
 unfolding table_declaration
 begins_table spot s here =
-    begins_ask (λ u. u.tables) (λ w ts n. refl) (λ known. check (nat_lt (length known) 16) (told.Limit limit.Tables) >> (advance >> (new_name >>= λ x. advance >> (expect_sign sign.Equals >> (table_words >>= λ ws. change (with_table (made_table spot x ws))))))) s
-    (begins_check (nat_lt (length s.tables) 16) (told.Limit limit.Tables) (advance >> (new_name >>= λ x. advance >> (expect_sign sign.Equals >> (table_words >>= λ ws. change (with_table (made_table spot x ws)))))) s refl tt (λ _.
+    begins_ask (λ u. u.tables) (λ w ts n. refl) (λ known. check (nat_lt (length known) 16) (text_case.Limit limit.Tables) >> (advance >> (new_name >>= λ x. advance >> (expect_sign sign.Equals >> (table_words >>= λ ws. change (with_table (made_table spot x ws))))))) s
+    (begins_check (nat_lt (length s.tables) 16) (text_case.Limit limit.Tables) (advance >> (new_name >>= λ x. advance >> (expect_sign sign.Equals >> (table_words >>= λ ws. change (with_table (made_table spot x ws)))))) s refl tt (λ _.
     begins_then advance (λ _. new_name >>= λ x. advance >> (expect_sign sign.Equals >> (table_words >>= λ ws. change (with_table (made_table spot x ws))))) s (begins_advance s here) (λ _ u.
     local_new_name (λ x. advance >> (expect_sign sign.Equals >> (table_words >>= λ ws. change (with_table (made_table spot x ws))))) u (λ x u at.
     begins_then advance (λ _. expect_sign sign.Equals >> (table_words >>= λ ws. change (with_table (made_table spot x ws)))) u (begins_advance u (kind.Name x, at)) (λ _ u.
@@ -175,8 +175,8 @@ from_branch spot x = branch_number >> (any_number >>= λ c. any_number >>= λ n.
 begins_lam : (spot : Spot) (s : State) → IsHere s → Begins (lam_declaration spot) s
 unfolding lam_declaration
 begins_lam spot s here =
-    begins_ask (λ u. u.lams) (λ w ts n. refl) (λ known. check (nat_lt (length known) 64) (told.Limit limit.Lams) >> (advance >> (new_name >>= λ x. advance >> from_branch spot x))) s
-    (begins_check (nat_lt (length s.lams) 64) (told.Limit limit.Lams) (advance >> (new_name >>= λ x. advance >> from_branch spot x)) s refl tt (λ _.
+    begins_ask (λ u. u.lams) (λ w ts n. refl) (λ known. check (nat_lt (length known) 64) (text_case.Limit limit.Lams) >> (advance >> (new_name >>= λ x. advance >> from_branch spot x))) s
+    (begins_check (nat_lt (length s.lams) 64) (text_case.Limit limit.Lams) (advance >> (new_name >>= λ x. advance >> from_branch spot x)) s refl tt (λ _.
     begins_then advance (λ _. new_name >>= λ x. advance >> from_branch spot x) s (begins_advance s here) (λ _ u.
     local_new_name (λ x. advance >> from_branch spot x) u (λ x u at.
     begins_then advance (λ _. from_branch spot x) u (begins_advance u (kind.Name x, at)) (λ _ u.
@@ -207,8 +207,8 @@ from_within spot l = expect word.Within >> (any_number >>= λ c. from_cycles spo
 begins_service : (spot : Spot) (s : State) → IsHere s → Begins (service_declaration spot) s
 unfolding service_declaration
 begins_service spot s here =
-    begins_ask (λ u. u.services) (λ w ts n. refl) (λ known. check (nat_lt (length known) 24) (told.Limit limit.Services) >> (advance >> (used_lam >>= λ l. from_within spot l))) s
-    (begins_check (nat_lt (length s.services) 24) (told.Limit limit.Services) (advance >> (used_lam >>= λ l. from_within spot l)) s refl tt (λ _.
+    begins_ask (λ u. u.services) (λ w ts n. refl) (λ known. check (nat_lt (length known) 24) (text_case.Limit limit.Services) >> (advance >> (used_lam >>= λ l. from_within spot l))) s
+    (begins_check (nat_lt (length s.services) 24) (text_case.Limit limit.Services) (advance >> (used_lam >>= λ l. from_within spot l)) s refl tt (λ _.
     begins_then advance (λ _. used_lam >>= λ l. from_within spot l) s (begins_advance s here) (λ _ u.
     local_then used_lam (λ l. from_within spot l) u (local_used_lam u) (λ l u.
     local_then (expect word.Within) (λ _. any_number >>= λ c. from_cycles spot l c) u (local_expect word.Within u) (λ _ u.

@@ -7,7 +7,7 @@ use Rattle.camac_lang.specs.Tests.{each, is_number, is_name, is_new}
 use Rattle.camac_lang.specs.Tree.{Text, Parameter, Statement}
 use Rattle.camac_lang.specs.declared.spot.Spot.{Spot}
 use Rattle.camac_tokens.specs.declared.fault.Limit.TheVariants as limit
-use Rattle.camac_tokens.specs.declared.fault.TextCase.TheVariants as told
+use Rattle.camac_tokens.specs.declared.fault.TextCase.TheVariants as text_case
 use Rattle.camac_tokens.specs.declared.token.Keyword.TheVariants as word
 use Rattle.camac_tokens.specs.declared.token.Sign.{Sign}
 use Rattle.camac_tokens.specs.declared.token.Sign.TheVariants as sign
@@ -46,10 +46,10 @@ pub record ReadsParameter (s : State) (p : Parameter) (s' : State) : Type 0 wher
 new_parameter_ok : (s : State) (y : Text × State) → new_parameter s ≡ Ok y → DeclaresOne s y.0 y.1 × (length s.variables < 8)
 unfolding new_parameter
 new_parameter_ok s y e =
-    let m = then_ok (new_name s) (λ x. ask (λ u. u.variables) >>= λ known. check (nat_lt (length known) 8) (told.Limit limit.Parameters) >> (added x >> give x)) y e in
+    let m = then_ok (new_name s) (λ x. ask (λ u. u.variables) >>= λ known. check (nat_lt (length known) 8) (text_case.Limit limit.Parameters) >> (added x >> give x)) y e in
     let h = new_name_ok s m.0 m.1 in
-    let at : (check (nat_lt (length s.variables) 8) (told.Limit limit.Parameters) >> (added m.0.0 >> give m.0.0)) s ≡ Ok y = subst (λ (u : State). (check (nat_lt (length u.variables) 8) (told.Limit limit.Parameters) >> (added m.0.0 >> give m.0.0)) u ≡ Ok y) h.left m.2 in
-    let c = check_ok (nat_lt (length s.variables) 8) (told.Limit limit.Parameters) (added m.0.0 >> give m.0.0) s y at in
+    let at : (check (nat_lt (length s.variables) 8) (text_case.Limit limit.Parameters) >> (added m.0.0 >> give m.0.0)) s ≡ Ok y = subst (λ (u : State). (check (nat_lt (length u.variables) 8) (text_case.Limit limit.Parameters) >> (added m.0.0 >> give m.0.0)) u ≡ Ok y) h.left m.2 in
+    let c = check_ok (nat_lt (length s.variables) 8) (text_case.Limit limit.Parameters) (added m.0.0 >> give m.0.0) s y at in
     let a = then_ok (added m.0.0 s) (λ _. give m.0.0) y c.1 in
     (subst (λ (p : Text × State). DeclaresOne s p.0 p.1) (ok_is (m.0.0, a.0.1) y a.2) (added_ok s m.0.0 a.0 h.next h.free a.1), ltb-true (length s.variables) 8 c.0)
 
@@ -273,7 +273,7 @@ pub procedure_is : (s : State) (k : TokenKind) (spot : Spot) (y : Unit {0} × St
 unfolding procedure_declaration
 procedure_is s k spot y next e =
     let t : State = past s in
-    let c0 = check_ok (nat_lt (length s.procedures) 16) (told.Limit limit.Procedures) (advance >> (new_name >>= λ name. advance >> after_name spot name)) s y e in
+    let c0 = check_ok (nat_lt (length s.procedures) 16) (text_case.Limit limit.Procedures) (advance >> (new_name >>= λ name. advance >> after_name spot name)) s y e in
     let a = then_ok (new_name t) (λ name. advance >> after_name spot name) y c0.1 in
     let h = new_name_ok t a.0 a.1 in
     let u : State = past (past s) in

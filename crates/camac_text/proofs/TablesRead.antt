@@ -4,7 +4,7 @@ use Rattle.std.proofs.lemmas.Bool.{ltb-true}
 use Rattle.camac_lang.specs.Tests.{each, is_name, is_new, is_word}
 use Rattle.camac_lang.specs.Tree.{Table}
 use Rattle.camac_tokens.specs.declared.fault.Limit.TheVariants as limit
-use Rattle.camac_tokens.specs.declared.fault.TextCase.TheVariants as told
+use Rattle.camac_tokens.specs.declared.fault.TextCase.TheVariants as text_case
 use Rattle.camac_tokens.specs.declared.token.Sign.TheVariants as sign
 use Rattle.camac_tokens.specs.declared.token.TokenKind.{TokenKind}
 use Rattle.camac_tokens.specs.declared.token.TokenKind.TheVariants as kind
@@ -28,10 +28,10 @@ pub record ReadsWord (count : ℕ) (s : State) (w : ℕ) (s' : State) : Type 0 w
 pub word_ok : (count : ℕ) (s : State) (y : ℕ × State) → word_after count s ≡ Ok y → ReadsWord count s y.0 y.1
 unfolding word_after
 word_ok count s y e =
-    let m = then_ok (number_here s) (λ n. check (nat_lt n 16777216) (told.Number 16777215) >> (check (nat_lt count 1024) (told.Limit limit.TableWords) >> (advance >> give n))) y e in
+    let m = then_ok (number_here s) (λ n. check (nat_lt n 16777216) (text_case.Number 16777215) >> (check (nat_lt count 1024) (text_case.Limit limit.TableWords) >> (advance >> give n))) y e in
     let h = number_ok s m.0 m.1 in
-    let c = check_ok (nat_lt m.0.0 16777216) (told.Number 16777215) (check (nat_lt count 1024) (told.Limit limit.TableWords) >> (advance >> give m.0.0)) m.0.1 y m.2 in
-    let d = check_ok (nat_lt count 1024) (told.Limit limit.TableWords) (advance >> give m.0.0) m.0.1 y c.1 in
+    let c = check_ok (nat_lt m.0.0 16777216) (text_case.Number 16777215) (check (nat_lt count 1024) (text_case.Limit limit.TableWords) >> (advance >> give m.0.0)) m.0.1 y m.2 in
+    let d = check_ok (nat_lt count 1024) (text_case.Limit limit.TableWords) (advance >> give m.0.0) m.0.1 y c.1 in
     let below : m.0.0 < 16777216 = ltb-true m.0.0 16777216 c.0 in
     subst (λ (p : ℕ × State). ReadsWord count s p.0 p.1) (ok_is (m.0.0, past m.0.1) y d.1) (record {
       one = record { next = h.0; left = ap past h.1 };
@@ -92,7 +92,7 @@ pub table_is : (s : State) (k : TokenKind) (spot : Spot) (y : Unit {0} × State)
 unfolding table_declaration
 table_is s k spot y next e =
     let t : State = past s in
-    let c0 = check_ok (nat_lt (length s.tables) 16) (told.Limit limit.Tables) _ s y e in
+    let c0 = check_ok (nat_lt (length s.tables) 16) (text_case.Limit limit.Tables) _ s y e in
     let a = then_ok (new_name t) _ y c0.1 in
     let h = new_name_ok t a.0 a.1 in
     let u : State = past a.0.1 in

@@ -6,7 +6,7 @@ use Rattle.camac_lang.specs.Scope.{are_declarable}
 use Rattle.camac_lang.specs.Tests.{is_new}
 use Rattle.camac_lang.specs.Tree.{Text}
 use Rattle.camac_tokens.specs.declared.fault.Limit.TheVariants as limit
-use Rattle.camac_tokens.specs.declared.fault.TextCase.TheVariants as told
+use Rattle.camac_tokens.specs.declared.fault.TextCase.TheVariants as text_case
 use Rattle.camac_tokens.specs.declared.token.TokenKind.TheVariants as kind
 use Rattle.camac_text_cursor.specs.Tried.{cleared}
 use Rattle.camac_text_cursor.specs.Reading.{State, ◌>>◌, give, change, advance, kind_of, after_first, past}
@@ -27,7 +27,7 @@ pub record DeclaresOne (s : State) (x : Text) (s' : State) : Type 0 where
 pub added_ok : (s : State) (x : Text) (y : Unit {0} × State) → kind_of s.rest ≡ Some (kind.Name x) → is_new x s.declared ≡ true → added x s ≡ Ok y → DeclaresOne s x y.1
 unfolding added
 added_ok s x y next free e =
-    let c = check_ok (nat_lt s.variable_count 64) (told.Limit limit.Variables) (advance >> change (with_variable x)) s y e in
+    let c = check_ok (nat_lt s.variable_count 64) (text_case.Limit limit.Variables) (advance >> change (with_variable x)) s y e in
     record {
       next = next;
       free = free;

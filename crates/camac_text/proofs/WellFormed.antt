@@ -13,7 +13,7 @@ use Rattle.camac_tokens.specs.declared.token.TokenKind.TheVariants as kind
 use Rattle.camac_tokens.specs.Start as start
 use Rattle.camac_tokens.specs.Start.{Start}
 use Rattle.camac_tokens.specs.declared.fault.Limit.TheVariants as limit
-use Rattle.camac_tokens.specs.declared.fault.TextCase.TheVariants as told
+use Rattle.camac_tokens.specs.declared.fault.TextCase.TheVariants as text_case
 use Rattle.camac_tokens.specs.Fault.{Fault}
 use Rattle.camac_tokens.specs.Words.{keyword}
 use Rattle.camac_tokens.specs.Scanning.{is_name_byte, is_blank, decimal_value, keyword_or, pair_at, single_at, pair_or_single, start_of, spot_at, line_after, with_first, tokens_by, tokens_from, tokens_of}
@@ -57,7 +57,7 @@ fits_if false f g on off = off refl
 not_longer : (n : ℕ) → ltb 32 n ≡ false → n ≤ 32
 not_longer n e = grind arith
 
-name_fits : (text : List ℕ) → 0 < length text → StartFits (cond (ltb 32 (length text)) (start.Wrong (told.Limit limit.NameBytes)) (start.Found (kind.Name text) (length text)))
+name_fits : (text : List ℕ) → 0 < length text → StartFits (cond (ltb 32 (length text)) (start.Wrong (text_case.Limit limit.NameBytes)) (start.Found (kind.Name text) (length text)))
 name_fits text some = fits_if (ltb 32 (length text)) _ _ (λ _. tt) (λ off. both (nat_le 1 (length text)) (nat_le (length text) 32) (below_le 1 (length text) (omega arith)) (below_le (length text) 32 (not_longer (length text) off)))
 
 keyword_fits : (k : Option Keyword) (text : List ℕ) → 0 < length text → StartFits (keyword_or k text)

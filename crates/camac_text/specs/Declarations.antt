@@ -4,7 +4,7 @@ use Rattle.camac_tokens.specs.declared.token.Keyword.TheVariants as word
 use Rattle.camac_tokens.specs.declared.token.TokenKind.{TokenKind}
 use Rattle.camac_tokens.specs.declared.token.TokenKind.TheVariants as kind
 use Rattle.camac_tokens.specs.declared.fault.Limit.TheVariants as limit
-use Rattle.camac_tokens.specs.declared.fault.TextCase.TheVariants as told
+use Rattle.camac_tokens.specs.declared.fault.TextCase.TheVariants as text_case
 use Rattle.camac_text_cursor.specs.declared.choice.Choice.TheVariants as choice
 use Rattle.camac_text_cursor.specs.Reading.{Reader, ◌>>=◌, ◌>>◌, give, ask, change, peek, advance, spot_here, unexpected, check, while_next, until}
 use Rattle.camac_text_cursor.specs.Readers.{is_name, expect, any_number, branch_number, sub_address_number, new_name, new_variable, used_lam}
@@ -17,7 +17,7 @@ use Rattle.camac_lang.specs.declared.spot.Spot.{Spot}
 unfoldable pub lam_declaration : Spot → Reader (Unit {0})
 lam_declaration spot = do
   known ← ask (λ s. s.lams)
-  check (nat_lt (length known) 64) (told.Limit limit.Lams)
+  check (nat_lt (length known) 64) (text_case.Limit limit.Lams)
   advance
   name ← new_name
   advance
@@ -41,7 +41,7 @@ variable_declaration spot = do
 unfoldable pub service_declaration : Spot → Reader (Unit {0})
 service_declaration spot = do
   known ← ask (λ s. s.services)
-  check (nat_lt (length known) 24) (told.Limit limit.Services)
+  check (nat_lt (length known) 24) (text_case.Limit limit.Services)
   advance
   lam ← used_lam
   expect word.Within

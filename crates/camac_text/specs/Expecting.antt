@@ -4,7 +4,7 @@ use Rattle.camac_lang.specs.Tree.{Script}
 use Rattle.camac_tokens.specs.declared.fault.TextFault.{TextFault}
 use Rattle.camac_tokens.specs.declared.fault.TextFault.TheVariants as text_fault
 use Rattle.camac_tokens.specs.declared.token.Token.{Token}
-use Rattle.camac_tokens.specs.declared.fault.TextCase.TheVariants as told
+use Rattle.camac_tokens.specs.declared.fault.TextCase.TheVariants as text_case
 use Rattle.camac_tokens.specs.Fault.{Fault}
 use Rattle.camac_tokens.specs.Scanning.{tokens_of, last_line}
 use Rattle.camac_text_cursor.specs.declared.choice.Choice.{Choice}
@@ -22,9 +22,9 @@ TellsAfter (Ok tokens) end_line (text_fault.Broken case spot) expected =
 TellsAfter made end_line fault expected = Unit {0}
 
 -- Where no token of a text has a fault, a fault of the grammar is told with what the reader looked for at its token.
-abbrev pub Tells : {A : Type 0} → List ℕ → Result A TextFault → Choices → Type 0
-Tells text (Ok x) expected = Unit {0}
-Tells text (Err fault) expected = TellsAfter (tokens_of text) (last_line text) fault expected
+abbrev pub TellsExpected : {A : Type 0} → List ℕ → Result A TextFault → Choices → Type 0
+TellsExpected text (Ok x) expected = Unit {0}
+TellsExpected text (Err fault) expected = TellsAfter (tokens_of text) (last_line text) fault expected
 
 -- ---- another token in that place
 
@@ -52,7 +52,7 @@ pub record IsExact (tokens : List Token) (place : ℕ) (set : Choice → Bool) :
   pub refuses : (t : Token) (others : List Token) (last : ℕ) → (Admits set (Some t.kind) → ⊥) → IsRefused t (tree_of_tokens (taken ++ t ∷ others) last)
 
 abbrev pub ExpectsAfter : Result (List Token) Fault → TextFault → Choices → Type 0
-ExpectsAfter (Ok tokens) (text_fault.Broken told.Unexpected spot) expected = IsExact tokens spot.left (held expected)
+ExpectsAfter (Ok tokens) (text_fault.Broken text_case.Unexpected spot) expected = IsExact tokens spot.left (held expected)
 ExpectsAfter made fault expected = Unit {0}
 
 -- Where a token is told that the grammar does not allow there, what is told of its place is exact.

@@ -5,7 +5,7 @@ use Rattle.camac_lang.specs.View.{block_of}
 use Rattle.camac_tokens.specs.declared.token.Keyword.TheVariants as word
 use Rattle.camac_tokens.specs.declared.token.Sign.TheVariants as sign
 use Rattle.camac_tokens.specs.declared.fault.Limit.TheVariants as limit
-use Rattle.camac_tokens.specs.declared.fault.TextCase.TheVariants as told
+use Rattle.camac_tokens.specs.declared.fault.TextCase.TheVariants as text_case
 use Rattle.camac_text_cursor.specs.declared.choice.Choice.TheVariants as choice
 use Rattle.camac_text_cursor.specs.Reading.{Reader, ◌>>=◌, ◌>>◌, give, ask, change, peek, advance, miss, check, until, one_more}
 use Rattle.camac_text_cursor.specs.Readers.{is_sign, expect, expect_sign, any_number, new_name, new_parameter}
@@ -74,7 +74,7 @@ procedure_made spot name h registers body = record {
 unfoldable pub procedure_declaration : Spot → Reader (Unit {0})
 procedure_declaration spot = do
   known ← ask (λ s. s.procedures)
-  check (nat_lt (length known) 16) (told.Limit limit.Procedures)
+  check (nat_lt (length known) 16) (text_case.Limit limit.Procedures)
   advance
   name ← new_name
   advance

@@ -2,7 +2,7 @@
 use Rattle.std.specs.Prelude.{ℕ, List, [], ◌∷◌, ◌++◌, length, nat_lt}
 use Rattle.camac_tokens.specs.declared.token.Sign.TheVariants as sign
 use Rattle.camac_tokens.specs.declared.fault.Limit.TheVariants as limit
-use Rattle.camac_tokens.specs.declared.fault.TextCase.TheVariants as told
+use Rattle.camac_tokens.specs.declared.fault.TextCase.TheVariants as text_case
 use Rattle.camac_text_cursor.specs.declared.choice.Choice.TheVariants as choice
 use Rattle.camac_text_cursor.specs.Reading.{Reader, ◌>>=◌, ◌>>◌, give, ask, change, advance, check, until}
 use Rattle.camac_text_cursor.specs.Readers.{is_number, expect_sign, number_here, new_name}
@@ -13,8 +13,8 @@ use Rattle.camac_lang.specs.declared.spot.Spot.{Spot}
 unfoldable pub word_after : ℕ → Reader ℕ
 word_after count = do
   n ← number_here
-  check (nat_lt n 16777216) (told.Number 16777215)
-  check (nat_lt count 1024) (told.Limit limit.TableWords)
+  check (nat_lt n 16777216) (text_case.Number 16777215)
+  check (nat_lt count 1024) (text_case.Limit limit.TableWords)
   advance
   give n
 
@@ -29,7 +29,7 @@ table_words = do
 unfoldable pub table_declaration : Spot → Reader (Unit {0})
 table_declaration spot = do
   known ← ask (λ s. s.tables)
-  check (nat_lt (length known) 16) (told.Limit limit.Tables)
+  check (nat_lt (length known) 16) (text_case.Limit limit.Tables)
   advance
   name ← new_name
   advance

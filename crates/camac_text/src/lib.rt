@@ -6,7 +6,7 @@ mod procedures;
 mod reading;
 mod tables;
 
-pub use camac_text_cursor::{Choice, Choices};
+pub use camac_text_cursor::{Choice, Choices, begins_statement};
 pub use camac_tokens::{
     Found, Keyword, Limit, NameKind, Sign, TextCase, TextFault, TextRule, Token, TokenKind,
     TokensLeft, tokens,

@@ -6,7 +6,7 @@ ghost use Rattle.camac_tokens.specs.Scanning.{tokens_of};
 ghost use Rattle.camac_text_cursor.specs.Parser.{Gives};
 ghost use Rattle.camac_text.specs.Declarations.{declarations_at};
 ghost use Rattle.camac_text.specs.Places.{HasFault, FaultIs};
-ghost use Rattle.camac_text.specs.Expecting.{Tells, Expects};
+ghost use Rattle.camac_text.specs.Expecting.{TellsExpected, Expects};
 ghost use Rattle.camac_text.specs.Parser.{unread_in, judged, script_of};
 
 use crate::declarations::declarations;
@@ -42,7 +42,7 @@ pub fn parse_expecting(
     expected: &mut Choices,
 ) -> Result<Script, TextFault>
     ensures exact { Answers result (script_of text.now) }
-    ensures tells { Tells text.now result expected.new }
+    ensures tells { TellsExpected text.now result expected.new }
     // A token fits in that place exactly where the set admits it.
     ensures expects { Expects text.now result expected.new }
 {

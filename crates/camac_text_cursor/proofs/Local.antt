@@ -9,14 +9,14 @@ use Rattle.camac_tokens.specs.declared.fault.NameKind.TheVariants as named
 use Rattle.camac_tokens.specs.declared.fault.Found.TheVariants as found
 use Rattle.camac_tokens.specs.declared.fault.Limit.TheVariants as limit
 use Rattle.camac_tokens.specs.declared.fault.TextCase.{TextCase}
-use Rattle.camac_tokens.specs.declared.fault.TextCase.TheVariants as told
+use Rattle.camac_tokens.specs.declared.fault.TextCase.TheVariants as text_case
 use Rattle.camac_tokens.specs.declared.token.Keyword.{Keyword}
 use Rattle.camac_tokens.specs.declared.token.Sign.{Sign}
 use Rattle.camac_tokens.specs.declared.token.Token.{Token}
 use Rattle.camac_tokens.specs.declared.token.TokenKind.{TokenKind}
 use Rattle.camac_tokens.specs.declared.token.TokenKind.TheVariants as kind
 use Rattle.camac_text_cursor.specs.declared.choice.Choice.TheVariants as choice
-use Rattle.camac_text_cursor.specs.Names.{place_of, lam_place, table_place, procedure_place}
+use Rattle.camac_text_cursor.specs.Names.{name_place, lam_place, table_place, procedure_place}
 use Rattle.camac_text_cursor.specs.Reading.{State, Reader, then_read, ◌>>=◌, ◌>>◌, give, ask, change, advance, fail, check, kind_of, miss, unexpected, while_next, one_more, Fault}
 use Rattle.camac_text_cursor.specs.Readers.{begin, is_keyword, is_sign, is_name, is_number, expect, expect_sign, name_of, name_here, number_of, number_here, any_number, branch_number, function_number, sub_address_number, declared_as, new_name, with_variable, added, new_variable, new_parameter, other_registers, with_register, register_at, set_name, found_here, undeclared, used_at, used, used_register, used_variable, used_lam, used_table, known_at, known, variable_here, procedure_here, callable_by, called}
 use Rattle.camac_text_cursor.proofs.Steps.{Progresses, while_choice}
@@ -30,7 +30,7 @@ begins_take x s here = begins_then advance (λ _. give x) s (begins_advance s he
 
 pub local_expect : (w : Keyword) (s : State) → IsLocal (expect w) s
 unfolding expect
-local_expect w s = local_test (choice.Word w) (is_keyword w) (λ at. refl) advance (fail told.Unexpected) s (λ u is. begins_advance u (here_admitted (choice.Word w ∷ []) u (admits_one (choice.Word w) (kind_of u.rest) ∙ is))) (λ u. local_fail told.Unexpected u tt)
+local_expect w s = local_test (choice.Word w) (is_keyword w) (λ at. refl) advance (fail text_case.Unexpected) s (λ u is. begins_advance u (here_admitted (choice.Word w ∷ []) u (admits_one (choice.Word w) (kind_of u.rest) ∙ is))) (λ u. local_fail text_case.Unexpected u tt)
 
 pub begins_expect_sign : (w : Sign) (s : State) → is_sign w (kind_of s.rest) ≡ true → Begins (expect_sign w) s
 unfolding expect_sign
@@ -38,7 +38,7 @@ begins_expect_sign w s is = begins_peek (λ k. cond (is_sign w k) advance (unexp
 
 pub local_expect_sign : (w : Sign) (s : State) → IsLocal (expect_sign w) s
 unfolding expect_sign
-local_expect_sign w s = local_test (choice.Mark w) (is_sign w) (λ at. refl) advance (fail told.Unexpected) s (λ u is. begins_advance u (here_admitted (choice.Mark w ∷ []) u (admits_one (choice.Mark w) (kind_of u.rest) ∙ is))) (λ u. local_fail told.Unexpected u tt)
+local_expect_sign w s = local_test (choice.Mark w) (is_sign w) (λ at. refl) advance (fail text_case.Unexpected) s (λ u is. begins_advance u (here_admitted (choice.Mark w ∷ []) u (admits_one (choice.Mark w) (kind_of u.rest) ∙ is))) (λ u. local_fail text_case.Unexpected u tt)
 
 -- ---- a name or a number that stands next, and what is read from there on
 
@@ -88,21 +88,21 @@ local_any_number s = local_numbered (λ n. advance >> give n) s (λ n u at. begi
 
 pub local_branch : (s : State) → IsLocal branch_number s
 unfolding branch_number
-local_branch s = local_numbered (λ n. check (eqb n 1) told.Branch >> advance) s (λ n u at. begins_check (eqb n 1) told.Branch advance u refl (n, at) (λ _. begins_advance u (kind.Number n, at)))
+local_branch s = local_numbered (λ n. check (eqb n 1) text_case.Branch >> advance) s (λ n u at. begins_check (eqb n 1) text_case.Branch advance u refl (n, at) (λ _. begins_advance u (kind.Number n, at)))
 
 pub local_function : (s : State) → IsLocal function_number s
 unfolding function_number
-local_function s = local_numbered (λ n. check (nat_lt n 32) (told.Number 31) >> (advance >> give n)) s (λ n u at. begins_check (nat_lt n 32) (told.Number 31) (advance >> give n) u refl (n, at) (λ _. begins_take n u (kind.Number n, at)))
+local_function s = local_numbered (λ n. check (nat_lt n 32) (text_case.Number 31) >> (advance >> give n)) s (λ n u at. begins_check (nat_lt n 32) (text_case.Number 31) (advance >> give n) u refl (n, at) (λ _. begins_take n u (kind.Number n, at)))
 
 pub local_sub_address : (s : State) → IsLocal sub_address_number s
 unfolding sub_address_number
-local_sub_address s = local_numbered (λ n. check (nat_lt n 16) (told.Number 15) >> (advance >> give n)) s (λ n u at. begins_check (nat_lt n 16) (told.Number 15) (advance >> give n) u refl (n, at) (λ _. begins_take n u (kind.Number n, at)))
+local_sub_address s = local_numbered (λ n. check (nat_lt n 16) (text_case.Number 15) >> (advance >> give n)) s (λ n u at. begins_check (nat_lt n 16) (text_case.Number 15) (advance >> give n) u refl (n, at) (λ _. begins_take n u (kind.Number n, at)))
 
 -- ---- names
 
 -- a new name, and what is read from it on
 abbrev from_new : {B : Type 0} → (Text → Reader B) → Text → Reader B
-from_new g x = ask (λ u. u.declared) >>= λ known. ask (declared_as x) >>= λ by. check (is_new x known) (told.Taken by) >> g x
+from_new g x = ask (λ u. u.declared) >>= λ known. ask (declared_as x) >>= λ by. check (is_new x known) (text_case.Taken by) >> g x
 
 new_then : {B : Type 0} (g : Text → Reader B) (u : State) → (new_name >>= g) u ≡ (name_here >>= from_new g) u
 unfolding new_name
@@ -111,15 +111,15 @@ new_then {B} g u = by (name_here u) where
   checked true case x v = refl
   checked false case x v = refl
 
-  by : (r : Result (Text × State) Fault) → then_read (then_read r (λ x. ask (λ u. u.declared) >>= λ known. ask (declared_as x) >>= λ by. check (is_new x known) (told.Taken by) >> give x)) g ≡ then_read r (from_new g)
-  by (Ok y) = checked (is_new y.0 y.1.declared) (told.Taken (declared_as y.0 y.1)) y.0 y.1
+  by : (r : Result (Text × State) Fault) → then_read (then_read r (λ x. ask (λ u. u.declared) >>= λ known. ask (declared_as x) >>= λ by. check (is_new x known) (text_case.Taken by) >> give x)) g ≡ then_read r (from_new g)
+  by (Ok y) = checked (is_new y.0 y.1.declared) (text_case.Taken (declared_as y.0 y.1)) y.0 y.1
   by (Err e) = refl
 
 begins_from_new : {B : Type 0} (g : Text → Reader B) (u : State) (x : Text) → kind_of u.rest ≡ Some (kind.Name x) → Begins (g x) u → Begins (from_new g x) u
 begins_from_new g u x at begins =
-    begins_ask (λ w. w.declared) (λ w ts n. refl) (λ known. ask (declared_as x) >>= λ by. check (is_new x known) (told.Taken by) >> g x) u
-    (begins_ask (declared_as x) (λ w ts n. refl) (λ by. check (is_new x u.declared) (told.Taken by) >> g x) u
-    (begins_check (is_new x u.declared) (told.Taken (declared_as x u)) (g x) u refl (x, at) (λ _. begins)))
+    begins_ask (λ w. w.declared) (λ w ts n. refl) (λ known. ask (declared_as x) >>= λ by. check (is_new x known) (text_case.Taken by) >> g x) u
+    (begins_ask (declared_as x) (λ w ts n. refl) (λ by. check (is_new x u.declared) (text_case.Taken by) >> g x) u
+    (begins_check (is_new x u.declared) (text_case.Taken (declared_as x u)) (g x) u refl (x, at) (λ _. begins)))
 
 pub begins_new_name : {B : Type 0} (g : Text → Reader B) (s : State) (x : Text) → kind_of s.rest ≡ Some (kind.Name x) → Begins (g x) s → Begins (new_name >>= g) s
 begins_new_name g s x at begins = begins_same (new_name >>= g) (name_here >>= from_new g) s (new_then g) (begins_named (from_new g) s x at (begins_from_new g s x at begins))
@@ -130,8 +130,8 @@ local_new_name g s next = local_same (new_name >>= g) (name_here >>= from_new g)
 begins_added : (x : Text) (s : State) → IsHere s → Begins (added x) s
 unfolding added
 begins_added x s here =
-    begins_ask (λ w. w.variable_count) (λ w ts n. refl) (λ n. check (nat_lt n 64) (told.Limit limit.Variables) >> (advance >> change (with_variable x))) s
-    (begins_check (nat_lt s.variable_count 64) (told.Limit limit.Variables) (advance >> change (with_variable x)) s refl tt (λ _.
+    begins_ask (λ w. w.variable_count) (λ w ts n. refl) (λ n. check (nat_lt n 64) (text_case.Limit limit.Variables) >> (advance >> change (with_variable x))) s
+    (begins_check (nat_lt s.variable_count 64) (text_case.Limit limit.Variables) (advance >> change (with_variable x)) s refl tt (λ _.
     begins_then advance (λ _. change (with_variable x)) s (begins_advance s here) (λ _ v. local_change (with_variable x) (λ w ts n. refl) (λ w. refl) v)))
 
 pub begins_new_variable : (s : State) (x : Text) → kind_of s.rest ≡ Some (kind.Name x) → Begins new_variable s
@@ -145,28 +145,28 @@ local_new_variable s = local_new_name added s (λ x u at. begins_added x u (kind
 pub local_new_parameter : (s : State) → IsLocal new_parameter s
 unfolding new_parameter
 local_new_parameter s =
-    local_new_name (λ x. ask (λ u. u.variables) >>= λ known. check (nat_lt (length known) 8) (told.Limit limit.Parameters) >> (added x >> give x)) s (λ x u at.
-    begins_ask (λ w. w.variables) (λ w ts n. refl) (λ known. check (nat_lt (length known) 8) (told.Limit limit.Parameters) >> (added x >> give x)) u
-    (begins_check (nat_lt (length u.variables) 8) (told.Limit limit.Parameters) (added x >> give x) u refl tt (λ _.
+    local_new_name (λ x. ask (λ u. u.variables) >>= λ known. check (nat_lt (length known) 8) (text_case.Limit limit.Parameters) >> (added x >> give x)) s (λ x u at.
+    begins_ask (λ w. w.variables) (λ w ts n. refl) (λ known. check (nat_lt (length known) 8) (text_case.Limit limit.Parameters) >> (added x >> give x)) u
+    (begins_check (nat_lt (length u.variables) 8) (text_case.Limit limit.Parameters) (added x >> give x) u refl tt (λ _.
     begins_then (added x) (λ _. give x) u (begins_added x u (kind.Name x, at)) (λ _ v. local_give x v))))
 
 begins_register_at : (x : Text) (place : Option ℕ) (s : State) → IsHere s → Begins (register_at x place) s
 begins_register_at x (Some place) s here = begins_take place s here
 begins_register_at x None s here =
-    begins_ask other_registers (λ w ts n. refl) (λ others. ask (λ u. u.registers) >>= λ known. check (nat_lt (others + length known) 64) (told.Limit limit.Registers) >> (advance >> (change (with_register x) >> give (length known)))) s
-    (begins_ask (λ u. u.registers) (λ w ts n. refl) (λ known. check (nat_lt (other_registers s + length known) 64) (told.Limit limit.Registers) >> (advance >> (change (with_register x) >> give (length known)))) s
-    (begins_check (nat_lt (other_registers s + length s.registers) 64) (told.Limit limit.Registers) (advance >> (change (with_register x) >> give (length s.registers))) s refl tt (λ _.
+    begins_ask other_registers (λ w ts n. refl) (λ others. ask (λ u. u.registers) >>= λ known. check (nat_lt (others + length known) 64) (text_case.Limit limit.Registers) >> (advance >> (change (with_register x) >> give (length known)))) s
+    (begins_ask (λ u. u.registers) (λ w ts n. refl) (λ known. check (nat_lt (other_registers s + length known) 64) (text_case.Limit limit.Registers) >> (advance >> (change (with_register x) >> give (length known)))) s
+    (begins_check (nat_lt (other_registers s + length s.registers) 64) (text_case.Limit limit.Registers) (advance >> (change (with_register x) >> give (length s.registers))) s refl tt (λ _.
     begins_then advance (λ _. change (with_register x) >> give (length s.registers)) s (begins_advance s here) (λ _ u.
     local_then (change (with_register x)) (λ _. give (length s.registers)) u (local_change (with_register x) (λ w ts n. refl) (λ w. refl) u) (λ _ v. local_give (length s.registers) v)))))
 
 pub local_set_name : (s : State) → IsLocal set_name s
 unfolding set_name
 local_set_name s =
-    local_new_name (λ x. ask (λ u. u.registers) >>= λ known. register_at x (place_of x known)) s (λ x u at.
-    begins_ask (λ w. w.registers) (λ w ts n. refl) (λ known. register_at x (place_of x known)) u (begins_register_at x (place_of x u.registers) u (kind.Name x, at)))
+    local_new_name (λ x. ask (λ u. u.registers) >>= λ known. register_at x (name_place x known)) s (λ x u at.
+    begins_ask (λ w. w.registers) (λ w ts n. refl) (λ known. register_at x (name_place x known)) u (begins_register_at x (name_place x u.registers) u (kind.Name x, at)))
 
 begins_undeclared : {A : Type 0} (wanted : NameKind) (x : Text) (s : State) → kind_of s.rest ≡ Some (kind.Name x) → Begins (let f : Reader A = undeclared wanted x in f) s
-begins_undeclared wanted x s at = begins_ask (found_here wanted x) (λ w ts n. refl) (λ f. fail (told.Undeclared wanted f)) s (begins_fail (told.Undeclared wanted (found_here wanted x s)) s refl (x, at))
+begins_undeclared wanted x s at = begins_ask (found_here wanted x) (λ w ts n. refl) (λ f. fail (text_case.Undeclared wanted f)) s (begins_fail (text_case.Undeclared wanted (found_here wanted x s)) s refl (x, at))
 
 -- how a kind of names is sought: by what is declared
 abbrev Seeks : (Text → State → Option ℕ) → Type 0
@@ -187,13 +187,13 @@ local_used wanted find same s =
     begins_ask (find x) (same x) (used_at wanted x) u (begins_used_at wanted x (find x u) u at))
 
 pub local_used_register : (s : State) → IsLocal used_register s
-local_used_register s = local_used named.Register (λ x u. place_of x u.registers) (λ x w ts n. refl) s
+local_used_register s = local_used named.Register (λ x u. name_place x u.registers) (λ x w ts n. refl) s
 
 pub local_used_variable : (s : State) → IsLocal used_variable s
-local_used_variable s = local_used named.Variable (λ x u. place_of x u.variables) (λ x w ts n. refl) s
+local_used_variable s = local_used named.Variable (λ x u. name_place x u.variables) (λ x w ts n. refl) s
 
 pub begins_used_variable : (s : State) (x : Text) → kind_of s.rest ≡ Some (kind.Name x) → Begins used_variable s
-begins_used_variable s x at = begins_used named.Variable (λ x u. place_of x u.variables) (λ x w ts n. refl) s x at
+begins_used_variable s x at = begins_used named.Variable (λ x u. name_place x u.variables) (λ x w ts n. refl) s x at
 
 pub local_used_lam : (s : State) → IsLocal used_lam s
 local_used_lam s = local_used named.Lam (λ x u. lam_place x u.lams) (λ x w ts n. refl) s
@@ -227,18 +227,18 @@ local_known wanted find same g s next =
     (local_named (from_known wanted find g) s (λ x u at. begins_ask (find x) (same x) (λ place. known_at wanted x place >>= g) u (begins_known_at wanted g x (find x u) u at (λ p. next p x u at))))
 
 pub begins_variable_here : {B : Type 0} (g : ℕ → Reader B) (s : State) (x : Text) → kind_of s.rest ≡ Some (kind.Name x) → ((p : ℕ) → Begins (g p) s) → Begins (variable_here >>= g) s
-begins_variable_here g s x at next = begins_known named.Variable (λ x u. place_of x u.variables) (λ x w ts n. refl) g s x at next
+begins_variable_here g s x at next = begins_known named.Variable (λ x u. name_place x u.variables) (λ x w ts n. refl) g s x at next
 
 pub local_variable_here : {B : Type 0} (g : ℕ → Reader B) (s : State) → ((p : ℕ) (x : Text) (u : State) → kind_of u.rest ≡ Some (kind.Name x) → Begins (g p) u) → IsLocal (variable_here >>= g) s
-local_variable_here g s next = local_known named.Variable (λ x u. place_of x u.variables) (λ x w ts n. refl) g s next
+local_variable_here g s next = local_known named.Variable (λ x u. name_place x u.variables) (λ x w ts n. refl) g s next
 
 pub local_procedure_here : {B : Type 0} (g : ℕ → Reader B) (s : State) → ((p : ℕ) (x : Text) (u : State) → kind_of u.rest ≡ Some (kind.Name x) → Begins (g p) u) → IsLocal (procedure_here >>= g) s
 local_procedure_here g s next = local_known named.Procedure (λ x u. procedure_place x u.procedures) (λ x w ts n. refl) g s next
 
 -- where a name stands next
 begins_callable_by : (room : ℕ) (x : Text) (found : Option Callable) (s : State) → kind_of s.rest ≡ Some (kind.Name x) → Begins (callable_by room found) s
-begins_callable_by room x None s at = begins_fail (told.Undeclared named.Procedure found.Nothing) s refl (x, at)
-begins_callable_by room x (Some q) s at = begins_check (nat_le q.depth room) (told.Limit limit.CallDepth) (advance >> give q.parameters) s refl tt (λ _. begins_take q.parameters s (kind.Name x, at))
+begins_callable_by room x None s at = begins_fail (text_case.Undeclared named.Procedure found.Nothing) s refl (x, at)
+begins_callable_by room x (Some q) s at = begins_check (nat_le q.depth room) (text_case.Limit limit.CallDepth) (advance >> give q.parameters) s refl tt (λ _. begins_take q.parameters s (kind.Name x, at))
 
 pub begins_called : (room place : ℕ) (x : Text) (s : State) → kind_of s.rest ≡ Some (kind.Name x) → Begins (called room place) s
 unfolding called
@@ -250,8 +250,8 @@ begins_called room place x s at =
 pub begins_begin : (s : State) → IsHere s → Begins begin s
 unfolding begin
 begins_begin s here =
-    begins_ask (λ u. u.statements) (λ w ts n. refl) (λ n. check (nat_lt n 4096) (told.Limit limit.Statements) >> (change (λ u. record u { statements = suc u.statements }) >> advance)) s
-    (begins_check (nat_lt s.statements 4096) (told.Limit limit.Statements) (change (λ u. record u { statements = suc u.statements }) >> advance) s refl tt (λ _.
+    begins_ask (λ u. u.statements) (λ w ts n. refl) (λ n. check (nat_lt n 4096) (text_case.Limit limit.Statements) >> (change (λ u. record u { statements = suc u.statements }) >> advance)) s
+    (begins_check (nat_lt s.statements 4096) (text_case.Limit limit.Statements) (change (λ u. record u { statements = suc u.statements }) >> advance) s refl tt (λ _.
     begins_change (λ u. record u { statements = suc u.statements }) (λ w ts n. refl) (λ w. refl) advance within_advance s (begins_advance (record s { statements = suc s.statements }) here)))
 
 -- ---- lists that a sign closes

@@ -3,7 +3,7 @@ use Rattle.std.proofs.Common.{◌≡◌, ℕ, ◌≤◌, ◌<◌, Bool, true, fa
 use Rattle.camac_lang.specs.Tests.{is_name, is_number, is_new}
 use Rattle.camac_lang.specs.Tree.{Text}
 use Rattle.camac_tokens.specs.declared.fault.TextCase.{TextCase}
-use Rattle.camac_tokens.specs.declared.fault.TextCase.TheVariants as told
+use Rattle.camac_tokens.specs.declared.fault.TextCase.TheVariants as text_case
 use Rattle.camac_tokens.specs.declared.token.Keyword.{Keyword}
 use Rattle.camac_tokens.specs.declared.token.Sign.{Sign}
 use Rattle.camac_tokens.specs.declared.token.Token.{Token}
@@ -103,7 +103,7 @@ unfolding branch_number
 branch_ok s y e =
     let m = then_ok (number_here s) _ y e in
     let h = number_ok s m.0 m.1 in
-    let c = check_ok (eqb m.0.0 1) told.Branch advance m.0.1 y m.2 in
+    let c = check_ok (eqb m.0.0 1) text_case.Branch advance m.0.1 y m.2 in
     (m.0.0, subst (λ (p : Unit {0} × State). TakesOne s (kind.Number m.0.0) p.1) (ok_is _ y c.1) (record { next = h.0; left = ap past h.1 }))
 
 pub record TakesBelow (limit : ℕ) (s : State) (n : ℕ) (s' : State) : Type 0 where
@@ -115,7 +115,7 @@ unfolding function_number
 function_ok s y e =
     let m = then_ok (number_here s) _ y e in
     let h = number_ok s m.0 m.1 in
-    let c = check_ok (nat_lt m.0.0 32) (told.Number 31) (advance >> give m.0.0) m.0.1 y m.2 in
+    let c = check_ok (nat_lt m.0.0 32) (text_case.Number 31) (advance >> give m.0.0) m.0.1 y m.2 in
     subst (λ (p : ℕ × State). TakesBelow 32 s p.0 p.1) (ok_is _ y c.1) (record { one = record { next = h.0; left = ap past h.1 }; below = c.0 })
 
 pub sub_address_ok : (s : State) (y : ℕ × State) → sub_address_number s ≡ Ok y → TakesBelow 16 s y.0 y.1
@@ -123,7 +123,7 @@ unfolding sub_address_number
 sub_address_ok s y e =
     let m = then_ok (number_here s) _ y e in
     let h = number_ok s m.0 m.1 in
-    let c = check_ok (nat_lt m.0.0 16) (told.Number 15) (advance >> give m.0.0) m.0.1 y m.2 in
+    let c = check_ok (nat_lt m.0.0 16) (text_case.Number 15) (advance >> give m.0.0) m.0.1 y m.2 in
     subst (λ (p : ℕ × State). TakesBelow 16 s p.0 p.1) (ok_is _ y c.1) (record { one = record { next = h.0; left = ap past h.1 }; below = c.0 })
 
 expected : (c : Choice) (b : Bool) (s : State) (y : Unit {0} × State) → cond b advance (unexpected c) s ≡ Ok y → y.1 ≡ past s
@@ -159,5 +159,5 @@ unfolding new_name
 new_name_ok s y e =
     let m = then_ok (name_here s) _ y e in
     let h = name_ok s m.0 m.1 in
-    let c = check_ok (is_new m.0.0 m.0.1.declared) (told.Taken (declared_as m.0.0 m.0.1)) (give m.0.0) m.0.1 y m.2 in
+    let c = check_ok (is_new m.0.0 m.0.1.declared) (text_case.Taken (declared_as m.0.0 m.0.1)) (give m.0.0) m.0.1 y m.2 in
     subst (λ (p : Text × State). NewName s p.0 p.1) (ok_is _ y c.1) (record { next = h.0; free = ap (λ (w : State). is_new m.0.0 w.declared) (sym h.1) ∙ c.0; left = h.1 })

@@ -5,7 +5,7 @@ use Rattle.camac_lang.specs.declared.spot.Spot.{Spot}
 use Rattle.camac_tokens.specs.declared.token.Token.{Token}
 use Rattle.camac_tokens.specs.declared.token.TokenKind.{TokenKind}
 use Rattle.camac_tokens.specs.declared.fault.TextCase.{TextCase}
-use Rattle.camac_tokens.specs.declared.fault.TextCase.TheVariants as told
+use Rattle.camac_tokens.specs.declared.fault.TextCase.TheVariants as text_case
 use Rattle.camac_text_cursor.specs.declared.choice.Choice.{Choice}
 use Rattle.camac_text_cursor.specs.Tried.{Tried, Untold, Told, noted, cleared}
 use Rattle.camac_text_cursor.specs.Reading.{State, Reader, then_read, ◌>>=◌, ask, spot_here, peek, kind_of, spot_of, left_of, Fault}
@@ -97,8 +97,8 @@ pub record FailsAt {A : Type 0} (f : Reader A) (s : State) (e : Fault) : Type 0 
   pub tries : e.tried ≡ noted_all mine (carried taken s.tried)
   pub untold : f (hushed s) ≡ Err (without e)
   pub again : (t : Token) (r r' : List Token) (n : ℕ) → left ≡ t ∷ r → f (with_rest n s (taken ++ t ∷ r')) ≡ Err (without e)
-  pub refuses : e.case ≡ told.Unexpected → (t : Token) (r : List Token) (n : ℕ) → admits mine (Some t.kind) ≡ false → Refuses t (f (with_rest n s (taken ++ t ∷ r)))
-  pub passes : e.case ≡ told.Unexpected → (t : Token) (r : List Token) (n : ℕ) → admits mine (Some t.kind) ≡ true → Passes r (f (with_rest n s (taken ++ t ∷ r)))
+  pub refuses : e.case ≡ text_case.Unexpected → (t : Token) (r : List Token) (n : ℕ) → admits mine (Some t.kind) ≡ false → Refuses t (f (with_rest n s (taken ++ t ∷ r)))
+  pub passes : e.case ≡ text_case.Unexpected → (t : Token) (r : List Token) (n : ℕ) → admits mine (Some t.kind) ≡ true → Passes r (f (with_rest n s (taken ++ t ∷ r)))
 
 pub record IsLocal {A : Type 0} (f : Reader A) (s : State) : Type 0 where
   pub stops : (x : A) (s' : State) → f s ≡ Ok (x, s') → StopsAt f s x s'
@@ -447,7 +447,7 @@ same_spot : (ts : List Token) (taken left : List Token) (us : List Token) (n m :
 same_spot ts [] left us n m parts some = absurd some
 same_spot ts (c ∷ cs) left us n m parts some = rw parts refl
 
-unexpected_is : (case : TextCase) → case ≡ told.Unexpected → is_of_order case ≡ true
+unexpected_is : (case : TextCase) → case ≡ text_case.Unexpected → is_of_order case ≡ true
 unexpected_is case is = ap is_of_order is
 
 pub begins_first : {A : Type 0} (f g : Reader A) (s : State) → f s ≡ g s → ((ts : List Token) (n : ℕ) → kind_of ts ≡ kind_of s.rest → spot_of ts n ≡ spot_of s.rest s.end_line → f (with_rest n s ts) ≡ g (with_rest n s ts)) → Begins g s → Begins f s

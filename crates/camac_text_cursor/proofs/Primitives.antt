@@ -3,7 +3,7 @@ use Rattle.std.proofs.Common.{◌≡◌, ℕ, zero, suc, ◌<◌, Bool, true, fa
 use Rattle.camac_tokens.specs.declared.token.Token.{Token}
 use Rattle.camac_tokens.specs.declared.token.TokenKind.{TokenKind}
 use Rattle.camac_tokens.specs.declared.fault.TextCase.{TextCase}
-use Rattle.camac_tokens.specs.declared.fault.TextCase.TheVariants as told
+use Rattle.camac_tokens.specs.declared.fault.TextCase.TheVariants as text_case
 use Rattle.camac_text_cursor.specs.declared.choice.Choice.{Choice}
 use Rattle.camac_text_cursor.specs.declared.choice.Choice.TheVariants as choice
 use Rattle.camac_text_cursor.specs.Tried.{Tried, Untold, cleared}
@@ -238,8 +238,8 @@ local_match cs f g s on other at =
 
 -- how a token is refused that begins nothing: by its number of arguments, or since it was not looked for
 abbrev pub refusal : {A : Type 0} → List Choice → Option ℕ → Reader A
-refusal cs None = λ u. let f : Reader _ = fail told.Unexpected in f (missed_all cs u)
-refusal cs (Some wanted) = fail (told.ArgumentCount wanted)
+refusal cs None = λ u. let f : Reader _ = fail text_case.Unexpected in f (missed_all cs u)
+refusal cs (Some wanted) = fail (text_case.ArgumentCount wanted)
 
 -- A reader that begins with one of these, and refuses all else.
 pub local_refusing : {A : Type 0} (cs : List Choice) (bars : Option TokenKind → Option ℕ) (f : Reader A) (s : State) → ((u : State) → admits cs (kind_of u.rest) ≡ true → Begins f u) → ((u : State) → admits cs (kind_of u.rest) ≡ false → f u ≡ refusal cs (bars (kind_of u.rest)) u) → IsLocal f s
@@ -253,12 +253,12 @@ local_refusing {A} cs bars f s on other = by (admits cs (kind_of s.rest)) refl (
       let kind_is : kind_of s.rest ≡ Some t.kind = ap kind_of here in
       other (with_rest n s (t ∷ r')) (ap (admits cs) (sym kind_is) ∙ off) ∙ ap (λ (w : Option ℕ). let q : Result (A × State) Fault = refusal cs w (with_rest n s (t ∷ r')) in q) (ap bars (sym kind_is) ∙ is)
 
-  hushed_is : (u : State) → (let q : Result (A × State) Fault = refusal cs None u in q) ≡ Err (record { case = told.Unexpected; spot = spot_of u.rest u.end_line; tried = noted_all cs u.tried })
+  hushed_is : (u : State) → (let q : Result (A × State) Fault = refusal cs None u in q) ≡ Err (record { case = text_case.Unexpected; spot = spot_of u.rest u.end_line; tried = noted_all cs u.tried })
   hushed_is u = refl
 
   by : (fit : Bool) → admits cs (kind_of s.rest) ≡ fit → (b : Option ℕ) → bars (kind_of s.rest) ≡ b → IsLocal f s
   by true is b bar = local_of f s (on s is)
-  by false off None bar = local_err f s (fault_at told.Unexpected (missed_all cs s)) (other s off ∙ ap (λ (w : Option ℕ). let q : Result (A × State) Fault = refusal cs w s in q) bar) (record {
+  by false off None bar = local_err f s (fault_at text_case.Unexpected (missed_all cs s)) (other s off ∙ ap (λ (w : Option ℕ). let q : Result (A × State) Fault = refusal cs w s in q) bar) (record {
     taken = [];
     left = s.rest;
     mine = cs;
@@ -266,12 +266,12 @@ local_refusing {A} cs bars f s on other = by (admits cs (kind_of s.rest)) refl (
     place = refl;
     fits = tt;
     tries = refl;
-    untold = other (hushed s) off ∙ ap (λ (w : Option ℕ). let q : Result (A × State) Fault = refusal cs w (hushed s) in q) bar ∙ ap (λ (w : Tried). let q : Result (A × State) Fault = Err (record { case = told.Unexpected; spot = spot_of s.rest s.end_line; tried = w }) in q) (noted_untold cs);
-    again = λ t r r' n h. first t r r' n None h off bar ∙ ap (λ (w : Tried). let q : Result (A × State) Fault = Err (record { case = told.Unexpected; spot = t.spot; tried = w }) in q) (noted_untold cs) ∙ rw h refl;
+    untold = other (hushed s) off ∙ ap (λ (w : Option ℕ). let q : Result (A × State) Fault = refusal cs w (hushed s) in q) bar ∙ ap (λ (w : Tried). let q : Result (A × State) Fault = Err (record { case = text_case.Unexpected; spot = spot_of s.rest s.end_line; tried = w }) in q) (noted_untold cs);
+    again = λ t r r' n h. first t r r' n None h off bar ∙ ap (λ (w : Tried). let q : Result (A × State) Fault = Err (record { case = text_case.Unexpected; spot = t.spot; tried = w }) in q) (noted_untold cs) ∙ rw h refl;
     refuses = λ is t r n free. subst (λ (q : Result (A × State) Fault). Refuses t q) (sym (other (with_rest n s (t ∷ r)) free)) (refused (bars (Some t.kind)) t r n);
     passes = λ is t r n fit. passes_begins f (with_rest n s (t ∷ r)) t r refl (on (with_rest n s (t ∷ r)) fit);
   })
-  by false off (Some wanted) bar = local_err f s (fault_at (told.ArgumentCount wanted) s) (other s off ∙ ap (λ (w : Option ℕ). let q : Result (A × State) Fault = refusal cs w s in q) bar) (record {
+  by false off (Some wanted) bar = local_err f s (fault_at (text_case.ArgumentCount wanted) s) (other s off ∙ ap (λ (w : Option ℕ). let q : Result (A × State) Fault = refusal cs w s in q) bar) (record {
     taken = [];
     left = s.rest;
     mine = [];

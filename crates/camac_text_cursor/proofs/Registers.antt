@@ -7,9 +7,9 @@ use Rattle.camac_lang.specs.Scope.{are_declarable}
 use Rattle.camac_lang.specs.Tests.{each, is_name, is_new, are_new}
 use Rattle.camac_lang.specs.Tree.{Text}
 use Rattle.camac_tokens.specs.declared.fault.Limit.TheVariants as limit
-use Rattle.camac_tokens.specs.declared.fault.TextCase.TheVariants as told
+use Rattle.camac_tokens.specs.declared.fault.TextCase.TheVariants as text_case
 use Rattle.camac_tokens.specs.declared.token.TokenKind.TheVariants as kind
-use Rattle.camac_text_cursor.specs.Names.{place_of}
+use Rattle.camac_text_cursor.specs.Names.{name_place}
 use Rattle.camac_text_cursor.specs.Reading.{State, ◌>>◌, give, change, advance, kind_of, past}
 use Rattle.camac_text_cursor.specs.Readers.{new_name, other_registers, with_register, register_at, set_name}
 use Rattle.camac_text_cursor.proofs.Steps.{then_ok, ok_is}
@@ -75,7 +75,7 @@ pub record SetsRegister (s : State) (r : ℕ) (s' : State) : Type 0 where
   pub more : length s'.registers ≡ max (length s.registers) (suc r)
   pub registers : AllFit s.rest → RegistersFit (limits_of s) s.registers → RegistersFit (limits_of s) s'.registers
 
-register_is : (s : State) (x : Text) (place : Option ℕ) (y : ℕ × State) → kind_of s.rest ≡ Some (kind.Name x) → is_new x s.declared ≡ true → place_of x s.registers ≡ place → register_at x place s ≡ Ok y → SetsRegister s y.0 y.1
+register_is : (s : State) (x : Text) (place : Option ℕ) (y : ℕ × State) → kind_of s.rest ≡ Some (kind.Name x) → is_new x s.declared ≡ true → name_place x s.registers ≡ place → register_at x place s ≡ Ok y → SetsRegister s y.0 y.1
 register_is s x (Some place) y next free at e =
     let below : place < length s.registers = inside (bytes_eq x) place s.registers at in
     subst (λ (p : ℕ × State). SetsRegister s p.0 p.1) (ok_is (place, past s) y e) (record {
@@ -87,7 +87,7 @@ register_is s x (Some place) y next free at e =
       registers = λ h fits. fits;
     })
 register_is s x None y next free at e =
-    let c = check_ok (nat_lt (other_registers s + length s.registers) 64) (told.Limit limit.Registers) (advance >> (change (with_register x) >> give (length s.registers))) s y e in
+    let c = check_ok (nat_lt (other_registers s + length s.registers) 64) (text_case.Limit limit.Registers) (advance >> (change (with_register x) >> give (length s.registers))) s y e in
     let below : other_registers s + length s.registers < 64 = ltb-true (other_registers s + length s.registers) 64 c.0 in
     let one : length (s.registers ++ x ∷ []) ≡ length s.registers + 1 = length-append s.registers (x ∷ []) in
     let new : is_new x s.registers ≡ true = sym (is_new_none x s.registers) ∙ ap is_none at in
@@ -108,5 +108,5 @@ unfolding set_name
 set_name_ok s y e =
     let m = then_ok (new_name s) _ y e in
     let h = new_name_ok s m.0 m.1 in
-    let at : register_at m.0.0 (place_of m.0.0 s.registers) s ≡ Ok y = subst (λ (u : State). register_at m.0.0 (place_of m.0.0 u.registers) u ≡ Ok y) h.left m.2 in
-    register_is s m.0.0 (place_of m.0.0 s.registers) y h.next h.free refl at
+    let at : register_at m.0.0 (name_place m.0.0 s.registers) s ≡ Ok y = subst (λ (u : State). register_at m.0.0 (name_place m.0.0 u.registers) u ≡ Ok y) h.left m.2 in
+    register_is s m.0.0 (name_place m.0.0 s.registers) y h.next h.free refl at

@@ -9,7 +9,7 @@ use Rattle.camac_lang.specs.View.{table_of, lam_of, procedure_of}
 use Rattle.camac_lang.specs.declared.script.Table as rust_table
 use Rattle.camac_lang.specs.declared.script.Lam as rust
 use Rattle.camac_lang.specs.declared.script.Procedure as rust_procedure
-use Rattle.camac_text_cursor.specs.Names.{place_of, lam_place, table_place, procedure_place}
+use Rattle.camac_text_cursor.specs.Names.{name_place, lam_place, table_place, procedure_place}
 
 pub position_from-map : {A B : Type 0} (f : A → B) (test : B → Bool) (i : ℕ) (xs : List A) → position_from test i (map f xs) ≡ position_from (λ x. test (f x)) i xs
 position_from-map f test i [] = refl
@@ -33,7 +33,7 @@ none_from x i [] = refl
 none_from x i (y ∷ ys) = none_step x y ys (bytes_eq x y) i (none_from x (i + 1) ys)
 
 -- a name is new where it has no place
-pub is_new_none : (x : Text) (ys : List Text) → is_none (place_of x ys) ≡ is_new x ys
+pub is_new_none : (x : Text) (ys : List Text) → is_none (name_place x ys) ≡ is_new x ys
 is_new_none x ys = none_from x 0 ys
 
 -- ---- registers

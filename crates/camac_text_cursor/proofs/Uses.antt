@@ -8,7 +8,7 @@ use Rattle.camac_lang.specs.Tree.{Text, Table, Lam, Procedure}
 use Rattle.camac_tokens.specs.declared.token.TokenKind.TheVariants as kind
 use Rattle.camac_tokens.specs.declared.fault.NameKind.{NameKind}
 use Rattle.camac_tokens.specs.declared.fault.Limit.TheVariants as limit
-use Rattle.camac_tokens.specs.declared.fault.TextCase.TheVariants as told
+use Rattle.camac_tokens.specs.declared.fault.TextCase.TheVariants as text_case
 use Rattle.camac_text_cursor.specs.Reading.{State, ◌>>=◌, ◌>>◌, give, ask, advance, kind_of, past}
 use Rattle.camac_text_cursor.specs.Readers.{name_here, used_at, used, used_register, used_variable, used_lam, used_table, known_at, known, variable_here, procedure_here, callable_by, called}
 use Rattle.camac_text_cursor.proofs.Steps.{then_ok, ok_is, err_no_ok}
@@ -116,7 +116,7 @@ pub record CanBeCalled (room place : ℕ) (s : State) (parameters : ℕ) (s' : S
 callable_is : (room place : ℕ) (found : Option Callable) (s : State) (y : ℕ × State) → slice_get s.callables place ≡ found → callable_by room found s ≡ Ok y → CanBeCalled room place s y.0 y.1
 callable_is room place None s y at e = absurd (err_no_ok _ _ e)
 callable_is room place (Some q) s y at e =
-    let c = check_ok (nat_le q.depth room) (told.Limit limit.CallDepth) (advance >> give q.parameters) s y e in
+    let c = check_ok (nat_le q.depth room) (text_case.Limit limit.CallDepth) (advance >> give q.parameters) s y e in
     subst (λ (p : ℕ × State). CanBeCalled room place s p.0 p.1) (ok_is (q.parameters, past s) y c.1) (record {
       callable = q;
       found = at;

@@ -54,6 +54,14 @@ begins_anywhere word.While = true
 begins_anywhere word.Call = true
 begins_anywhere _ = false
 
+abbrev pub is_lock : Keyword → Bool
+is_lock word.Lock = true
+is_lock _ = false
+
+-- `lock` begins a statement, too, and a procedure refuses it by a case of its own
+abbrev pub begins_statement : Keyword → Bool
+begins_statement w = begins_anywhere w || is_lock w
+
 abbrev pub is_flag : Keyword → Bool
 is_flag word.Q = true
 is_flag word.X = true

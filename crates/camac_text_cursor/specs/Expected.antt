@@ -4,7 +4,7 @@ use Rattle.camac_tokens.specs.declared.token.Keyword.TheVariants as word
 use Rattle.camac_tokens.specs.declared.token.Token.{Token}
 use Rattle.camac_tokens.specs.declared.token.TokenKind.{TokenKind}
 use Rattle.camac_tokens.specs.declared.fault.TextCase.{TextCase}
-use Rattle.camac_tokens.specs.declared.fault.TextCase.TheVariants as told
+use Rattle.camac_tokens.specs.declared.fault.TextCase.TheVariants as text_case
 use Rattle.camac_text_cursor.specs.declared.choice.Choice.{Choice}
 use Rattle.camac_text_cursor.specs.declared.choice.Choice.TheVariants as choice
 use Rattle.camac_text_cursor.specs.Choice.{takes}
@@ -21,8 +21,8 @@ Admits set at = (c : Choice) × (set c ≡ true) × (suits c at ≡ true)
 
 -- whether a fault is in the order of tokens, and not in what a single token says
 abbrev pub is_of_order : TextCase → Bool
-is_of_order told.Unexpected = true
-is_of_order (told.ArgumentCount wanted) = true
+is_of_order text_case.Unexpected = true
+is_of_order (text_case.ArgumentCount wanted) = true
 is_of_order _ = false
 
 -- those left are the last of these

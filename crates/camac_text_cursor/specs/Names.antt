@@ -5,8 +5,8 @@ use Rattle.std.specs.Str.{bytes_eq}
 use Rattle.camac_lang.specs.Tree.{Text, Table, Lam, Procedure}
 
 -- the first place of a name
-abbrev pub place_of : Text → List Text → Option ℕ
-place_of x names = position_from (bytes_eq x) 0 names
+abbrev pub name_place : Text → List Text → Option ℕ
+name_place x names = position_from (bytes_eq x) 0 names
 
 -- the first place of a LAM with this name
 abbrev pub lam_place : Text → List Lam → Option ℕ

@@ -16,9 +16,9 @@ use Rattle.camac_tokens.specs.declared.fault.NameKind.TheVariants as named
 use Rattle.camac_tokens.specs.declared.fault.Found.{Found}
 use Rattle.camac_tokens.specs.declared.fault.Found.TheVariants as found
 use Rattle.camac_tokens.specs.declared.fault.Limit.TheVariants as limit
-use Rattle.camac_tokens.specs.declared.fault.TextCase.TheVariants as told
+use Rattle.camac_tokens.specs.declared.fault.TextCase.TheVariants as text_case
 use Rattle.camac_text_cursor.specs.declared.choice.Choice.TheVariants as choice
-use Rattle.camac_text_cursor.specs.Names.{place_of, lam_place, table_place, procedure_place}
+use Rattle.camac_text_cursor.specs.Names.{name_place, lam_place, table_place, procedure_place}
 use Rattle.camac_text_cursor.specs.Reading.{State, Reader, ◌>>=◌, ◌>>◌, give, ask, change, peek, advance, fail, unexpected, check}
 
 -- ---- single tokens
@@ -79,20 +79,20 @@ any_number = do
 unfoldable pub branch_number : Reader (Unit {0})
 branch_number = do
   n ← number_here
-  check (n == 1) told.Branch
+  check (n == 1) text_case.Branch
   advance
 
 unfoldable pub function_number : Reader ℕ
 function_number = do
   n ← number_here
-  check (nat_lt n 32) (told.Number 31)
+  check (nat_lt n 32) (text_case.Number 31)
   advance
   give n
 
 unfoldable pub sub_address_number : Reader ℕ
 sub_address_number = do
   n ← number_here
-  check (nat_lt n 16) (told.Number 15)
+  check (nat_lt n 16) (text_case.Number 15)
   advance
   give n
 
@@ -103,9 +103,9 @@ abbrev pub declared_as : Text → State → NameKind
 declared_as x s =
     if is_some (table_place x s.tables) then named.Table
     else (if is_some (lam_place x s.lams) then named.Lam
-    else (if is_some (place_of x s.variables) then (if s.in_procedure then named.Parameter else named.Variable)
-    else (if is_some (place_of x s.outside) then named.Variable
-    else (if is_some (place_of x s.registers) then named.Register else named.Procedure))))
+    else (if is_some (name_place x s.variables) then (if s.in_procedure then named.Parameter else named.Variable)
+    else (if is_some (name_place x s.outside) then named.Variable
+    else (if is_some (name_place x s.registers) then named.Register else named.Procedure))))
 
 -- a name that no table, LAM, variable or procedure before it has
 unfoldable pub new_name : Reader Text
@@ -113,7 +113,7 @@ new_name = do
   name ← name_here
   known ← ask (λ s. s.declared)
   by ← ask (declared_as name)
-  check (is_new name known) (told.Taken by)
+  check (is_new name known) (text_case.Taken by)
   give name
 
 abbrev pub with_variable : Text → State → State
@@ -123,7 +123,7 @@ with_variable name s = record s { variables = s.variables ++ name ∷ []; variab
 unfoldable pub added : Text → Reader (Unit {0})
 added name = do
   count ← ask (λ s. s.variable_count)
-  check (nat_lt count 64) (told.Limit limit.Variables)
+  check (nat_lt count 64) (text_case.Limit limit.Variables)
   advance
   change (with_variable name)
 
@@ -135,7 +135,7 @@ unfoldable pub new_parameter : Reader Text
 new_parameter = do
   name ← new_name
   known ← ask (λ s. s.variables)
-  check (nat_lt (length known) 8) (told.Limit limit.Parameters)
+  check (nat_lt (length known) 8) (text_case.Limit limit.Parameters)
   added name
   give name
 
@@ -153,7 +153,7 @@ register_at name (Some place) = advance >> give place
 register_at name None = do
   others ← ask other_registers
   known ← ask (λ s. s.registers)
-  check (nat_lt (others + length known) 64) (told.Limit limit.Registers)
+  check (nat_lt (others + length known) 64) (text_case.Limit limit.Registers)
   advance
   change (with_register name)
   give (length known)
@@ -162,7 +162,7 @@ unfoldable pub set_name : Reader ℕ
 set_name = do
   name ← new_name
   known ← ask (λ s. s.registers)
-  register_at name (place_of name known)
+  register_at name (name_place name known)
 
 -- what a name is that is not declared as the kind that is wanted
 abbrev pub found_as : NameKind → Option NameKind → Found
@@ -175,7 +175,7 @@ abbrev pub found_here : NameKind → Text → State → Found
 found_here wanted x s = found_as wanted (if is_new x s.declared && is_new x s.registers then None else Some (declared_as x s))
 
 abbrev pub undeclared : {A : Type 0} → NameKind → Text → Reader A
-undeclared wanted x = ask (found_here wanted x) >>= λ f. fail (told.Undeclared wanted f)
+undeclared wanted x = ask (found_here wanted x) >>= λ f. fail (text_case.Undeclared wanted f)
 
 -- The number of a name that is declared as the kind that is wanted. The name is taken, or stays where it is.
 abbrev pub used_at : NameKind → Text → Option ℕ → Reader ℕ
@@ -205,10 +205,10 @@ no_name wanted = do
   undeclared wanted name
 
 abbrev pub used_register : Reader ℕ
-used_register = used named.Register (λ x s. place_of x s.registers)
+used_register = used named.Register (λ x s. name_place x s.registers)
 
 abbrev pub used_variable : Reader ℕ
-used_variable = used named.Variable (λ x s. place_of x s.variables)
+used_variable = used named.Variable (λ x s. name_place x s.variables)
 
 abbrev pub used_lam : Reader ℕ
 used_lam = used named.Lam (λ x s. lam_place x s.lams)
@@ -217,16 +217,16 @@ abbrev pub used_table : Reader ℕ
 used_table = used named.Table (λ x s. table_place x s.tables)
 
 abbrev pub variable_here : Reader ℕ
-variable_here = known named.Variable (λ x s. place_of x s.variables)
+variable_here = known named.Variable (λ x s. name_place x s.variables)
 
 abbrev pub procedure_here : Reader ℕ
 procedure_here = known named.Procedure (λ x s. procedure_place x s.procedures)
 
 -- the number of parameters of what is called, where so many brackets and braces may be open
 abbrev pub callable_by : ℕ → Option Callable → Reader ℕ
-callable_by room None = fail (told.Undeclared named.Procedure found.Nothing)
+callable_by room None = fail (text_case.Undeclared named.Procedure found.Nothing)
 callable_by room (Some q) = do
-  check (nat_le q.depth room) (told.Limit limit.CallDepth)
+  check (nat_le q.depth room) (text_case.Limit limit.CallDepth)
   advance
   give q.parameters
 
@@ -242,6 +242,6 @@ called room place = do
 unfoldable pub begin : Reader (Unit {0})
 begin = do
   so_far ← ask (λ s. s.statements)
-  check (nat_lt so_far 4096) (told.Limit limit.Statements)
+  check (nat_lt so_far 4096) (text_case.Limit limit.Statements)
   change (λ s. record s { statements = suc s.statements })
   advance

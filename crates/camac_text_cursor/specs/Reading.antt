@@ -6,7 +6,7 @@ use Rattle.camac_lang.specs.declared.spot.Spot.{Spot}
 use Rattle.camac_tokens.specs.declared.token.Token.{Token}
 use Rattle.camac_tokens.specs.declared.token.TokenKind.{TokenKind}
 use Rattle.camac_tokens.specs.declared.fault.TextCase.{TextCase}
-use Rattle.camac_tokens.specs.declared.fault.TextCase.TheVariants as told
+use Rattle.camac_tokens.specs.declared.fault.TextCase.TheVariants as text_case
 use Rattle.camac_tokens.specs.Fault as of_text
 use Rattle.camac_text_cursor.specs.declared.choice.Choice.{Choice}
 use Rattle.camac_text_cursor.specs.Tried.{Tried, noted, cleared}
@@ -120,7 +120,7 @@ fail case = λ s. Err (record { case = case; spot = spot_of s.rest s.end_line; t
 
 -- a fault at the next token, in whose place this may stand, and what was looked for before
 abbrev pub unexpected : {A : Type 0} → Choice → Reader A
-unexpected c = miss c >> fail told.Unexpected
+unexpected c = miss c >> fail text_case.Unexpected
 
 -- a fault at the next token, unless this holds
 abbrev pub check : Bool → TextCase → Reader (Unit {0})

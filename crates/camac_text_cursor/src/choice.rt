@@ -2,7 +2,7 @@
 
 ghost use Rattle.std.specs.Prelude.{◌≡◌, Some};
 ghost use Rattle.camac_tokens.specs.declared.token.TokenKind.TheVariants as kind;
-ghost use Rattle.camac_text_cursor.specs.Choice.{takes, group_of_word, group_of_sign, group};
+ghost use Rattle.camac_text_cursor.specs.Choice.{begins_statement, is_lock, takes, group_of_word, group_of_sign, group};
 ghost use Rattle.camac_text_cursor.specs.Tried.{place};
 
 use camac_tokens::{Keyword, Sign, TokenKind};
@@ -123,6 +123,22 @@ impl Choice {
             Choice::Comparison => 76,
             Choice::Each => 77,
         }
+    }
+}
+
+/// Whether a word begins a statement: `lock`, too.
+pub fn begins_statement(word: Keyword) -> bool
+    ensures { result ≡ begins_statement word }
+{
+    Choice::Statement.has_word(word) || is_lock(word)
+}
+
+fn is_lock(word: Keyword) -> bool
+    ensures { result ≡ is_lock word }
+{
+    match word {
+        Keyword::Lock => true,
+        _ => false,
     }
 }
 

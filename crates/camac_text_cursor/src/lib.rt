@@ -9,5 +9,5 @@ mod declaring;
 mod names;
 mod naming;
 
-pub use choice::{Choice, Choices};
+pub use choice::{Choice, Choices, begins_statement};
 pub use cursor::Parser;

@@ -4,14 +4,14 @@ ghost use Rattle.std.specs.Prelude.{◌≡◌, map, bytes_eq};
 ghost use Rattle.std.specs.List.{position_from};
 ghost use Rattle.camac_lang.specs.Tests.{is_new};
 ghost use Rattle.camac_lang.specs.View.{lam_of, procedure_of, table_of};
-ghost use Rattle.camac_text_cursor.specs.Names.{place_of, lam_place, table_place, procedure_place};
+ghost use Rattle.camac_text_cursor.specs.Names.{name_place, lam_place, table_place, procedure_place};
 
 use camac_lang::{Lam, Name, Procedure, Table};
 use camac_tokens::are_same;
 
 /// The first place of a name.
-pub fn place_of(names: &[Name], name: &Name) -> Option<usize>
-    ensures { result ≡ place_of name.now names.now }
+pub fn name_place(names: &[Name], name: &Name) -> Option<usize>
+    ensures { result ≡ name_place name.now names.now }
 {
     names.iter().position(|known| is_same(known, name))
 }
@@ -68,7 +68,7 @@ fn is_same(known: &Name, name: &Name) -> bool
 pub fn is_new(names: &[Name], name: &Name) -> bool
     ensures { result ≡ is_new name.now names.now }
 {
-    match place_of(names, name) {
+    match name_place(names, name) {
         Some(_) => false,
         None => true,
     }

@@ -10,7 +10,7 @@ ghost use Rattle.camac_text_cursor.specs.Parser.{state, FailsWith, Gives};
 
 use crate::choice::Choice;
 use crate::cursor::Parser;
-use crate::names::{is_new, lam_place, place_of, procedure_place, table_place};
+use crate::names::{is_new, lam_place, name_place, procedure_place, table_place};
 use camac_lang::{Name, limits};
 use camac_tokens::{Found, Limit, NameKind, TextCase, TextFault, TokenKind};
 
@@ -103,7 +103,7 @@ impl Parser<'_> {
             let by = here.declared_as(name);
             return Err(here.fault(TextCase::Taken { by }));
         }
-        match place_of(&here.registers, name) {
+        match name_place(&here.registers, name) {
             Some(place) => {
                 self.advance();
                 Ok(place)
@@ -125,13 +125,13 @@ impl Parser<'_> {
         if lam_place(&self.lams, name).is_some() {
             return NameKind::Lam;
         }
-        if place_of(&self.variables, name).is_some() {
+        if name_place(&self.variables, name).is_some() {
             return self.variable_kind();
         }
-        if place_of(&self.outside, name).is_some() {
+        if name_place(&self.outside, name).is_some() {
             return NameKind::Variable;
         }
-        if place_of(&self.registers, name).is_some() {
+        if name_place(&self.registers, name).is_some() {
             return NameKind::Register;
         }
         NameKind::Procedure
@@ -190,7 +190,7 @@ impl Parser<'_> {
         let Some(TokenKind::Name(name)) = here.peek() else {
             return None;
         };
-        let place = place_of(&here.registers, name)?;
+        let place = name_place(&here.registers, name)?;
         self.advance();
         Some(place)
     }
@@ -218,7 +218,7 @@ impl Parser<'_> {
         let Some(TokenKind::Name(name)) = here.peek() else {
             return None;
         };
-        let place = place_of(&here.variables, name)?;
+        let place = name_place(&here.variables, name)?;
         self.advance();
         Some(place)
     }
@@ -261,7 +261,7 @@ impl Parser<'_> {
         let Some(TokenKind::Name(name)) = here.peek() else {
             return Err(self.unexpected(Choice::Name));
         };
-        match place_of(&here.variables, name) {
+        match name_place(&here.variables, name) {
             Some(place) => Ok(place),
             None => Err(here.undeclared(NameKind::Variable, name)),
         }

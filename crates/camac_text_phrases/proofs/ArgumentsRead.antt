@@ -9,7 +9,7 @@ use Rattle.camac_text_cursor.specs.Tried.{Tried}
 use Rattle.camac_tokens.specs.declared.fault.TextFault.{TextFault}
 use Rattle.camac_tokens.specs.declared.fault.TextFault.TheVariants as fault
 use Rattle.camac_tokens.specs.declared.fault.Limit.TheVariants as limit
-use Rattle.camac_tokens.specs.declared.fault.TextCase.TheVariants as told
+use Rattle.camac_tokens.specs.declared.fault.TextCase.TheVariants as text_case
 use Rattle.camac_tokens.specs.declared.token.Sign.{Sign}
 use Rattle.camac_tokens.specs.declared.token.Sign.TheVariants as sign
 use Rattle.camac_tokens.specs.declared.token.TokenKind.{TokenKind}
@@ -27,7 +27,7 @@ use Rattle.camac_text_phrases.proofs.ConditionsRead.{most_push}
 
 -- ---- one argument
 
-counted_by : (w : Sign) (on shown : Bool) (wanted : ℕ) (s : State) (y : Unit {0} × State) → cond on advance (cond shown (fail (told.ArgumentCount wanted)) (unexpected (choice.Mark w))) s ≡ Ok y → Moves s y.1
+counted_by : (w : Sign) (on shown : Bool) (wanted : ℕ) (s : State) (y : Unit {0} × State) → cond on advance (cond shown (fail (text_case.ArgumentCount wanted)) (unexpected (choice.Mark w))) s ≡ Ok y → Moves s y.1
 counted_by w true shown wanted s y e = subst (λ (p : Unit {0} × State). Moves s p.1) (ok_is _ y e) (moved s)
 counted_by w false true wanted s y e = absurd (err_no_ok _ _ e)
 counted_by w false false wanted s y e = absurd (err_no_ok _ _ e)
@@ -36,7 +36,7 @@ pub counted_sign_ok : (w : Sign) (shows : Option TokenKind → Bool) (wanted : �
 unfolding counted_sign
 counted_sign_ok w shows wanted s y e = counted_by w (is_sign w (kind_of s.rest)) (shows (kind_of s.rest)) wanted s y e
 
-first_ok : (b : Bool) (wanted room : ℕ) (s : State) (y : Expression × State) → cond b (fail (told.ArgumentCount wanted)) (expression_at room) s ≡ Ok y → ReadsExpression room s y.0 y.1
+first_ok : (b : Bool) (wanted room : ℕ) (s : State) (y : Expression × State) → cond b (fail (text_case.ArgumentCount wanted)) (expression_at room) s ≡ Ok y → ReadsExpression room s y.0 y.1
 first_ok true wanted room s y e = absurd (err_no_ok _ _ e)
 first_ok false wanted room s y e = expression_ok room s y e
 
@@ -84,7 +84,7 @@ none_yet : (room : ℕ) (s : State) → ReadsArguments room 0 s [] s
 none_yet room s = record { moves = stays s; counted = refl; fit = λ h. refl; deep = omega arith }
 
 -- in their brackets
-no_room : (b : Bool) (s : State) (y : List Expression × State) → cond b (fail (told.Limit limit.Depth)) (unexpected (choice.Mark sign.LeftBracket)) s ≡ Ok y → ⊥
+no_room : (b : Bool) (s : State) (y : List Expression × State) → cond b (fail (text_case.Limit limit.Depth)) (unexpected (choice.Mark sign.LeftBracket)) s ≡ Ok y → ⊥
 no_room true s y e = err_no_ok _ _ e
 no_room false s y e = err_no_ok _ _ e
 

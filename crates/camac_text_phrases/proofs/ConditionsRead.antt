@@ -8,7 +8,7 @@ use Rattle.camac_lang.specs.Expressions.{Scope, expression_fits, test_fits, part
 use Rattle.camac_lang.specs.Tests.{each, most}
 use Rattle.camac_lang.specs.Tree.{Test, flag_q, flag_x, compare, Part, plain, negated, Condition}
 use Rattle.camac_tokens.specs.declared.fault.Limit.TheVariants as limit
-use Rattle.camac_tokens.specs.declared.fault.TextCase.TheVariants as told
+use Rattle.camac_tokens.specs.declared.fault.TextCase.TheVariants as text_case
 use Rattle.camac_tokens.specs.declared.token.Keyword.{Keyword}
 use Rattle.camac_tokens.specs.declared.token.Keyword.TheVariants as word
 use Rattle.camac_tokens.specs.declared.token.Sign.TheVariants as sign
@@ -108,7 +108,7 @@ part_ok room s y e = part_is room (kind_of s.rest) s y e
 
 no_part : (k : Option TokenKind) (s : State) (y : Unit {0} × State) → no_part_by k s ≡ Ok y → ⊥
 no_part (Some (kind.Name x)) s y e =
-    let m = then_ok (variable_here s) (λ _. fail (told.Limit limit.Parts)) y e in
+    let m = then_ok (variable_here s) (λ _. fail (text_case.Limit limit.Parts)) y e in
     err_no_ok _ _ m.2
 no_part (Some (kind.Keyword word.Q)) s y e = err_no_ok _ _ e
 no_part (Some (kind.Keyword word.X)) s y e = err_no_ok _ _ e

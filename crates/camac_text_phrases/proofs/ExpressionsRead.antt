@@ -11,7 +11,7 @@ use Rattle.camac_tokens.specs.declared.token.TokenKind.{TokenKind}
 use Rattle.camac_tokens.specs.declared.token.TokenKind.TheVariants as kind
 use Rattle.camac_tokens.specs.declared.fault.TextFault.{TextFault}
 use Rattle.camac_tokens.specs.declared.fault.Limit.TheVariants as limit
-use Rattle.camac_tokens.specs.declared.fault.TextCase.TheVariants as told
+use Rattle.camac_tokens.specs.declared.fault.TextCase.TheVariants as text_case
 use Rattle.camac_tokens.specs.declared.token.Sign.TheVariants as sign
 use Rattle.camac_text_cursor.specs.Tried.{Tried}
 use Rattle.camac_text_cursor.specs.declared.choice.Choice.TheVariants as choice
@@ -98,7 +98,7 @@ pub record Operator (so_far : ℕ) (s : State) (n : ℕ) (s' : State) : Type 0 w
 pub operator_ok : (so_far : ℕ) (s : State) (y : ℕ × State) → operator so_far s ≡ Ok y → Operator so_far s y.0 y.1
 unfolding operator
 operator_ok so_far s y e =
-    let c = check_ok (nat_lt so_far 32) (told.Limit limit.Operators) (advance >> give (suc so_far)) s y e in
+    let c = check_ok (nat_lt so_far 32) (text_case.Limit limit.Operators) (advance >> give (suc so_far)) s y e in
     subst (λ (p : ℕ × State). Operator so_far s p.0 p.1) (ok_is (suc so_far, past s) y c.1)
     (record { room = ltb-true so_far 32 c.0; next = refl; left = refl })
 
@@ -112,9 +112,9 @@ pub record Divides (s : State) (n : ℕ) (s' : State) : Type 0 where
 pub divisor_ok : (s : State) (y : ℕ × State) → divisor s ≡ Ok y → Divides s y.0 y.1
 unfolding divisor
 divisor_ok s y e =
-    let m = then_ok (number_here s) (λ n. check (nat_lt 0 n) told.ZeroDivisor >> (advance >> give n)) y e in
+    let m = then_ok (number_here s) (λ n. check (nat_lt 0 n) text_case.ZeroDivisor >> (advance >> give n)) y e in
     let h = number_ok s m.0 m.1 in
-    let c = check_ok (nat_lt 0 m.0.0) told.ZeroDivisor (advance >> give m.0.0) m.0.1 y m.2 in
+    let c = check_ok (nat_lt 0 m.0.0) text_case.ZeroDivisor (advance >> give m.0.0) m.0.1 y m.2 in
     let above : 0 < m.0.0 = ltb-true 0 m.0.0 c.0 in
     subst (λ (p : ℕ × State). Divides s p.0 p.1) (ok_is (m.0.0, past m.0.1) y c.1)
     (record { one = record { next = h.0; left = ap past h.1 }; from_1 = below_le 1 m.0.0 (omega arith) })

@@ -2,7 +2,7 @@
 use Rattle.std.proofs.Common.{◌≡◌, ℕ, zero, suc, Bool, true, false, Option, Some, None, cond, List, [], ◌∷◌, ◌++◌, refl, sym, ◌∙◌}
 use Rattle.camac_lang.specs.Tree.{Expression}
 use Rattle.camac_tokens.specs.declared.fault.Limit.TheVariants as limit
-use Rattle.camac_tokens.specs.declared.fault.TextCase.TheVariants as told
+use Rattle.camac_tokens.specs.declared.fault.TextCase.TheVariants as text_case
 use Rattle.camac_tokens.specs.declared.token.Sign.{Sign}
 use Rattle.camac_tokens.specs.declared.token.Sign.TheVariants as sign
 use Rattle.camac_tokens.specs.declared.token.TokenKind.{TokenKind}
@@ -24,12 +24,12 @@ wants wanted shows = cond shows (Some wanted) None
 local_counted : (w : Sign) (shows : Option TokenKind → Bool) (wanted : ℕ) (s : State) → IsLocal (counted_sign w shows wanted) s
 unfolding counted_sign
 local_counted w shows wanted s =
-    local_refusing (choice.Mark w ∷ []) (λ k. wants wanted (shows k)) (peek >>= λ k. cond (is_sign w k) advance (cond (shows k) (fail (told.ArgumentCount wanted)) (unexpected (choice.Mark w)))) s
-    (λ u is. begins_peek (λ k. cond (is_sign w k) advance (cond (shows k) (fail (told.ArgumentCount wanted)) (unexpected (choice.Mark w)))) u
-    (begins_if (is_sign w (kind_of u.rest)) advance (cond (shows (kind_of u.rest)) (fail (told.ArgumentCount wanted)) (unexpected (choice.Mark w))) u
+    local_refusing (choice.Mark w ∷ []) (λ k. wants wanted (shows k)) (peek >>= λ k. cond (is_sign w k) advance (cond (shows k) (fail (text_case.ArgumentCount wanted)) (unexpected (choice.Mark w)))) s
+    (λ u is. begins_peek (λ k. cond (is_sign w k) advance (cond (shows k) (fail (text_case.ArgumentCount wanted)) (unexpected (choice.Mark w)))) u
+    (begins_if (is_sign w (kind_of u.rest)) advance (cond (shows (kind_of u.rest)) (fail (text_case.ArgumentCount wanted)) (unexpected (choice.Mark w))) u
     (λ _. begins_advance u (here_admitted (choice.Mark w ∷ []) u is)) (λ not_it. absurd (let both = sym (admits_one (choice.Mark w) (kind_of u.rest) ∙ not_it) ∙ is in cc))))
     (λ u free. by u (is_sign w (kind_of u.rest)) (shows (kind_of u.rest)) (sym (admits_one (choice.Mark w) (kind_of u.rest)) ∙ free)) where
-      by : (u : State) (b shown : Bool) → b ≡ false → (let f : Reader (Unit {0}) = cond b advance (cond shown (fail (told.ArgumentCount wanted)) (unexpected (choice.Mark w))) in f u) ≡ refusal (choice.Mark w ∷ []) (wants wanted shown) u
+      by : (u : State) (b shown : Bool) → b ≡ false → (let f : Reader (Unit {0}) = cond b advance (cond shown (fail (text_case.ArgumentCount wanted)) (unexpected (choice.Mark w))) in f u) ≡ refusal (choice.Mark w ∷ []) (wants wanted shown) u
       by u true shown free = absurd cc
       by u false true free = refl
       by u false false free = refl
@@ -40,11 +40,11 @@ no_value _ is ends = absurd cc
 
 local_argument : (wanted room : ℕ) (es : List Expression) (s : State) → IsLocal (argument_after wanted room es) s
 local_argument wanted room [] s =
-    local_refusing values (λ k. wants wanted (is_sign sign.RightBracket k)) (peek >>= λ k. cond (is_sign sign.RightBracket k) (fail (told.ArgumentCount wanted)) (expression_at room)) s
-    (λ u is. begins_peek (λ k. cond (is_sign sign.RightBracket k) (fail (told.ArgumentCount wanted)) (expression_at room)) u
-    (begins_if (is_sign sign.RightBracket (kind_of u.rest)) (fail (told.ArgumentCount wanted)) (expression_at room) u (λ ends. absurd (no_value (kind_of u.rest) is ends)) (λ _. begins_expression room u is)))
+    local_refusing values (λ k. wants wanted (is_sign sign.RightBracket k)) (peek >>= λ k. cond (is_sign sign.RightBracket k) (fail (text_case.ArgumentCount wanted)) (expression_at room)) s
+    (λ u is. begins_peek (λ k. cond (is_sign sign.RightBracket k) (fail (text_case.ArgumentCount wanted)) (expression_at room)) u
+    (begins_if (is_sign sign.RightBracket (kind_of u.rest)) (fail (text_case.ArgumentCount wanted)) (expression_at room) u (λ ends. absurd (no_value (kind_of u.rest) is ends)) (λ _. begins_expression room u is)))
     (λ u free. by u (is_sign sign.RightBracket (kind_of u.rest)) (no_expression room u free)) where
-      by : (u : State) (ends : Bool) → expression_at room u ≡ refusal values None u → (let f : Reader Expression = cond ends (fail (told.ArgumentCount wanted)) (expression_at room) in f u) ≡ refusal values (wants wanted ends) u
+      by : (u : State) (ends : Bool) → expression_at room u ≡ refusal values None u → (let f : Reader Expression = cond ends (fail (text_case.ArgumentCount wanted)) (expression_at room) in f u) ≡ refusal values (wants wanted ends) u
       by u true refused = refl
       by u false refused = refused
 local_argument wanted room (x ∷ xs) s =
@@ -58,7 +58,7 @@ local_more wanted room (suc n) es s = local_then (argument_after wanted room es)
 pub local_arguments : (room n : ℕ) (s : State) → IsLocal (arguments_at room n) s
 unfolding arguments_at
 local_arguments zero n s =
-    local_test (choice.Mark sign.LeftBracket) (is_sign sign.LeftBracket) (λ at. refl) (fail (told.Limit limit.Depth)) (fail told.Unexpected) s (λ u _. begins_fail (told.Limit limit.Depth) u refl tt) (λ u. local_fail told.Unexpected u tt)
+    local_test (choice.Mark sign.LeftBracket) (is_sign sign.LeftBracket) (λ at. refl) (fail (text_case.Limit limit.Depth)) (fail text_case.Unexpected) s (λ u _. begins_fail (text_case.Limit limit.Depth) u refl tt) (λ u. local_fail text_case.Unexpected u tt)
 local_arguments (suc room) n s =
     local_then (expect_sign sign.LeftBracket) (λ _. more_arguments n room n [] >>= λ es. counted_sign sign.RightBracket (shows_more n) n >> give es) s (local_expect_sign sign.LeftBracket s) (λ _ u.
     local_then (more_arguments n room n []) (λ es. counted_sign sign.RightBracket (shows_more n) n >> give es) u (local_more n room n [] u) (λ es u.

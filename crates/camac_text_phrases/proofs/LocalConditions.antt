@@ -4,7 +4,7 @@ use Rattle.camac_range.specs.declared.comparison.Cmp.{Cmp}
 use Rattle.camac_range.specs.declared.comparison.Cmp.TheVariants as cmp
 use Rattle.camac_lang.specs.Tree.{flag_q, flag_x, compare, plain, negated}
 use Rattle.camac_tokens.specs.declared.fault.Limit.TheVariants as limit
-use Rattle.camac_tokens.specs.declared.fault.TextCase.TheVariants as told
+use Rattle.camac_tokens.specs.declared.fault.TextCase.TheVariants as text_case
 use Rattle.camac_tokens.specs.declared.token.Keyword.TheVariants as word
 use Rattle.camac_tokens.specs.declared.token.Sign.TheVariants as sign
 use Rattle.camac_tokens.specs.declared.token.TokenKind.{TokenKind}
@@ -98,12 +98,12 @@ abbrev parts : List Choice
 parts = choice.Mark sign.LeftBracket ∷ choice.Name ∷ choice.Number ∷ choice.Flag ∷ choice.Word word.Not ∷ []
 
 begins_no_part_by : (k : Option TokenKind) (s : State) → kind_of s.rest ≡ k → admits parts k ≡ true → Begins (no_part_by k) s
-begins_no_part_by (Some (kind.Keyword word.Q)) s at is = begins_fail (told.Limit limit.Parts) s refl tt
-begins_no_part_by (Some (kind.Keyword word.X)) s at is = begins_fail (told.Limit limit.Parts) s refl tt
-begins_no_part_by (Some (kind.Keyword word.Not)) s at is = begins_fail (told.Limit limit.Parts) s refl tt
-begins_no_part_by (Some (kind.Number n)) s at is = begins_fail (told.Limit limit.Parts) s refl tt
-begins_no_part_by (Some (kind.Name x)) s at is = begins_variable_here (λ _. fail (told.Limit limit.Parts)) s x at (λ _. begins_fail (told.Limit limit.Parts) s refl tt)
-begins_no_part_by (Some (kind.Sign sign.LeftBracket)) s at is = begins_fail (told.Limit limit.Parts) s refl tt
+begins_no_part_by (Some (kind.Keyword word.Q)) s at is = begins_fail (text_case.Limit limit.Parts) s refl tt
+begins_no_part_by (Some (kind.Keyword word.X)) s at is = begins_fail (text_case.Limit limit.Parts) s refl tt
+begins_no_part_by (Some (kind.Keyword word.Not)) s at is = begins_fail (text_case.Limit limit.Parts) s refl tt
+begins_no_part_by (Some (kind.Number n)) s at is = begins_fail (text_case.Limit limit.Parts) s refl tt
+begins_no_part_by (Some (kind.Name x)) s at is = begins_variable_here (λ _. fail (text_case.Limit limit.Parts)) s x at (λ _. begins_fail (text_case.Limit limit.Parts) s refl tt)
+begins_no_part_by (Some (kind.Sign sign.LeftBracket)) s at is = begins_fail (text_case.Limit limit.Parts) s refl tt
 begins_no_part_by _ s at is = absurd cc
 
 refuses_part : (k : Option TokenKind) (s : State) → admits parts k ≡ false → no_part_by k s ≡ (let f : Reader (Unit {0}) = refusal parts None in f s)

@@ -3,7 +3,7 @@ use Rattle.std.proofs.Common.{◌≡◌, ℕ, zero, suc, true, false, List, [], 
 use Rattle.std.specs.Prelude.{nat_lt}
 use Rattle.camac_lang.specs.Tree.{Expression, number, variable, group, multiply, divide, remainder}
 use Rattle.camac_tokens.specs.declared.fault.Limit.TheVariants as limit
-use Rattle.camac_tokens.specs.declared.fault.TextCase.TheVariants as told
+use Rattle.camac_tokens.specs.declared.fault.TextCase.TheVariants as text_case
 use Rattle.camac_tokens.specs.declared.token.Sign.TheVariants as sign
 use Rattle.camac_tokens.specs.declared.token.TokenKind.{TokenKind}
 use Rattle.camac_tokens.specs.declared.token.TokenKind.TheVariants as kind
@@ -22,11 +22,11 @@ use Rattle.camac_text_phrases.proofs.BracketsRead.{product_progress, sum_progres
 
 begins_operator : (so_far : ℕ) (s : State) → IsHere s → Begins (operator so_far) s
 unfolding operator
-begins_operator so_far s here = begins_check (nat_lt so_far 32) (told.Limit limit.Operators) (advance >> give (suc so_far)) s refl tt (λ _. begins_take (suc so_far) s here)
+begins_operator so_far s here = begins_check (nat_lt so_far 32) (text_case.Limit limit.Operators) (advance >> give (suc so_far)) s refl tt (λ _. begins_take (suc so_far) s here)
 
 local_divisor : (s : State) → IsLocal divisor s
 unfolding divisor
-local_divisor s = local_numbered (λ n. check (nat_lt 0 n) told.ZeroDivisor >> (advance >> give n)) s (λ n u at. begins_check (nat_lt 0 n) told.ZeroDivisor (advance >> give n) u refl tt (λ _. begins_take n u (kind.Number n, at)))
+local_divisor s = local_numbered (λ n. check (nat_lt 0 n) text_case.ZeroDivisor >> (advance >> give n)) s (λ n u at. begins_check (nat_lt 0 n) text_case.ZeroDivisor (advance >> give n) u refl tt (λ _. begins_take n u (kind.Number n, at)))
 
 -- what begins an expression
 abbrev pub values : List Choice
@@ -117,7 +117,7 @@ module _ (room : ℕ) (inner : ℕ → Reader Counted) (inner_ok : (so_far : ℕ
 
 begins_bracketed : (room so_far : ℕ) (s : State) → is_sign sign.LeftBracket (kind_of s.rest) ≡ true → Begins (bracketed room so_far) s
 unfolding bracketed
-begins_bracketed zero so_far s is = begins_fail (told.Limit limit.Depth) s refl tt
+begins_bracketed zero so_far s is = begins_fail (text_case.Limit limit.Depth) s refl tt
 begins_bracketed (suc room) so_far s is =
     begins_then advance (λ _. sum_with (bracketed room) so_far >>= λ x. expect_sign sign.RightBracket >> give (counted (group x.value) x.operators)) s (begins_advance s (here_admitted (choice.Mark sign.LeftBracket ∷ []) s (admits_one (choice.Mark sign.LeftBracket) (kind_of s.rest) ∙ is))) (λ _ u.
     local_then (sum_with (bracketed room) so_far) (λ x. expect_sign sign.RightBracket >> give (counted (group x.value) x.operators)) u (local_sum room (bracketed room) (bracketed_ok room) (begins_bracketed room) so_far u) (λ x u.

@@ -1,7 +1,7 @@
 -- Readers of kept ranges are local.
 use Rattle.std.proofs.Common.{◌≡◌, refl, ◌∙◌, ℕ, Bool, true, false, nat_eq, Option, List, [], ◌∷◌, ◌++◌, cond}
 use Rattle.camac_lang.specs.Tree.{Keep}
-use Rattle.camac_tokens.specs.declared.fault.TextCase.TheVariants as told
+use Rattle.camac_tokens.specs.declared.fault.TextCase.TheVariants as text_case
 use Rattle.camac_tokens.specs.declared.token.Keyword.TheVariants as word
 use Rattle.camac_tokens.specs.declared.token.Sign.TheVariants as sign
 use Rattle.camac_tokens.specs.declared.token.TokenKind.{TokenKind}
@@ -25,13 +25,13 @@ own_fits (of_loop.Measure v) at is = is
 
 kept_fits : (own : Own) (place : ℕ) (at : Option TokenKind) → IsName at → CaseFits (kept_case own place) at
 kept_fits own place at is = by (nat_eq (own_place own) place) where
-  by : (b : Bool) → CaseFits (cond b (own_case own) told.KeptTwice) at
+  by : (b : Bool) → CaseFits (cond b (own_case own) text_case.KeptTwice) at
   by true = own_fits own at is
   by false = is
 
 kept_out_of_order : (own : Own) (place : ℕ) → is_of_order (kept_case own place) ≡ false
 kept_out_of_order own place = by own (nat_eq (own_place own) place) where
-  by : (w : Own) (b : Bool) → is_of_order (cond b (own_case w) told.KeptTwice) ≡ false
+  by : (w : Own) (b : Bool) → is_of_order (cond b (own_case w) text_case.KeptTwice) ≡ false
   by (of_loop.Counter v) true = refl
   by (of_loop.Measure v) true = refl
   by w false = refl

@@ -8,7 +8,7 @@ use Rattle.camac_tokens.specs.declared.token.Sign.TheVariants as sign
 use Rattle.camac_tokens.specs.declared.token.TokenKind.{TokenKind}
 use Rattle.camac_tokens.specs.declared.token.TokenKind.TheVariants as kind
 use Rattle.camac_tokens.specs.declared.fault.Limit.TheVariants as limit
-use Rattle.camac_tokens.specs.declared.fault.TextCase.TheVariants as told
+use Rattle.camac_tokens.specs.declared.fault.TextCase.TheVariants as text_case
 use Rattle.camac_text_cursor.specs.declared.choice.Choice.TheVariants as choice
 use Rattle.camac_text_cursor.specs.Reading.{Reader, ◌>>=◌, ◌>>◌, give, peek, advance, miss, fail, unexpected, until}
 use Rattle.camac_text_cursor.specs.Readers.{is_keyword, variable_here}
@@ -57,12 +57,12 @@ part_at room = peek >>= part_by room
 
 -- the first token of a part too many, where it could begin a part
 abbrev pub no_part_by : Option TokenKind → Reader (Unit {0})
-no_part_by (Some (kind.Keyword word.Q)) = fail (told.Limit limit.Parts)
-no_part_by (Some (kind.Keyword word.X)) = fail (told.Limit limit.Parts)
-no_part_by (Some (kind.Keyword word.Not)) = fail (told.Limit limit.Parts)
-no_part_by (Some (kind.Number n)) = fail (told.Limit limit.Parts)
-no_part_by (Some (kind.Name x)) = variable_here >> fail (told.Limit limit.Parts)
-no_part_by (Some (kind.Sign sign.LeftBracket)) = fail (told.Limit limit.Parts)
+no_part_by (Some (kind.Keyword word.Q)) = fail (text_case.Limit limit.Parts)
+no_part_by (Some (kind.Keyword word.X)) = fail (text_case.Limit limit.Parts)
+no_part_by (Some (kind.Keyword word.Not)) = fail (text_case.Limit limit.Parts)
+no_part_by (Some (kind.Number n)) = fail (text_case.Limit limit.Parts)
+no_part_by (Some (kind.Name x)) = variable_here >> fail (text_case.Limit limit.Parts)
+no_part_by (Some (kind.Sign sign.LeftBracket)) = fail (text_case.Limit limit.Parts)
 no_part_by _ = do
   miss (choice.Word word.Not)
   miss choice.Flag

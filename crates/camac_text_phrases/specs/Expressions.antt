@@ -5,7 +5,7 @@ use Rattle.camac_tokens.specs.declared.token.Sign.TheVariants as sign
 use Rattle.camac_tokens.specs.declared.token.TokenKind.{TokenKind}
 use Rattle.camac_tokens.specs.declared.token.TokenKind.TheVariants as kind
 use Rattle.camac_tokens.specs.declared.fault.Limit.TheVariants as limit
-use Rattle.camac_tokens.specs.declared.fault.TextCase.TheVariants as told
+use Rattle.camac_tokens.specs.declared.fault.TextCase.TheVariants as text_case
 use Rattle.camac_text_cursor.specs.declared.choice.Choice.TheVariants as choice
 use Rattle.camac_text_cursor.specs.Reading.{Reader, ◌>>=◌, ◌>>◌, give, peek, advance, miss, fail, unexpected, check, until}
 use Rattle.camac_text_cursor.specs.Readers.{number_here, any_number, used_variable, expect_sign}
@@ -21,7 +21,7 @@ counted value operators = record { value = value; operators = operators }
 -- the sign of an operator, which is counted
 unfoldable pub operator : ℕ → Reader ℕ
 operator so_far = do
-  check (nat_lt so_far 32) (told.Limit limit.Operators)
+  check (nat_lt so_far 32) (text_case.Limit limit.Operators)
   advance
   give (suc so_far)
 
@@ -29,7 +29,7 @@ operator so_far = do
 unfoldable pub divisor : Reader ℕ
 divisor = do
   n ← number_here
-  check (nat_lt 0 n) told.ZeroDivisor
+  check (nat_lt 0 n) text_case.ZeroDivisor
   advance
   give n
 
@@ -109,7 +109,7 @@ sum_with bracketed so_far = product_with bracketed so_far >>= until choice.Sum i
 
 -- what stands in brackets, where there is room for so many open ones
 unfoldable pub bracketed : ℕ → ℕ → Reader Counted
-bracketed zero so_far = fail (told.Limit limit.Depth)
+bracketed zero so_far = fail (text_case.Limit limit.Depth)
 bracketed (suc room) so_far = do
   advance
   inner ← sum_with (bracketed room) so_far

@@ -5,7 +5,7 @@ use Rattle.camac_lang.specs.Tree.{Keep}
 use Rattle.camac_tokens.specs.declared.token.Keyword.TheVariants as word
 use Rattle.camac_tokens.specs.declared.token.Sign.TheVariants as sign
 use Rattle.camac_tokens.specs.declared.fault.TextCase.{TextCase}
-use Rattle.camac_tokens.specs.declared.fault.TextCase.TheVariants as told
+use Rattle.camac_tokens.specs.declared.fault.TextCase.TheVariants as text_case
 use Rattle.camac_text_phrases.specs.declared.keeping.Own.{Own}
 use Rattle.camac_text_phrases.specs.declared.keeping.Own.TheVariants as of_loop
 use Rattle.camac_text_cursor.specs.declared.choice.Choice.TheVariants as choice
@@ -18,8 +18,8 @@ own_place (of_loop.Counter place) = place
 own_place (of_loop.Measure place) = place
 
 abbrev pub own_case : Own → TextCase
-own_case (of_loop.Counter place) = told.CounterKept
-own_case (of_loop.Measure place) = told.MeasureKept
+own_case (of_loop.Counter place) = text_case.CounterKept
+own_case (of_loop.Measure place) = text_case.MeasureKept
 
 -- the variables that a further keep may not have: the loop's own, and those that are kept
 abbrev pub taken : Own → List Keep → List ℕ
@@ -30,7 +30,7 @@ is_free place own keeps = each (λ x. not (nat_eq x place)) (taken own keeps)
 
 -- what is told of a variable that is not free
 abbrev pub kept_case : Own → ℕ → TextCase
-kept_case own place = if nat_eq (own_place own) place then own_case own else told.KeptTwice
+kept_case own place = if nat_eq (own_place own) place then own_case own else text_case.KeptTwice
 
 unfoldable pub keep_at : Own → List Keep → Reader Keep
 keep_at own keeps = do

@@ -20,7 +20,7 @@ use Rattle.camac_tokens.specs.declared.token.Sign.TheVariants as mark
 use Rattle.camac_tokens.specs.declared.token.Token.{Token}
 use Rattle.camac_tokens.specs.declared.token.TokenKind.{TokenKind}
 use Rattle.camac_tokens.specs.declared.token.TokenKind.TheVariants as kind
-use Rattle.camac_text_cursor.specs.Names.{place_of}
+use Rattle.camac_text_cursor.specs.Names.{name_place}
 use Rattle.camac_text_cursor.specs.Reading.{State, Reader, ◌>>=◌, ◌>>◌, give, kind_of, after_first}
 use Rattle.camac_text_cursor.specs.Readers.{expect_sign, branch_number, function_number, set_name, used_register, used_lam, variable_here, begin, expect, used_variable, used_table}
 use Rattle.camac_text_cursor.proofs.Places.{hushed}
@@ -97,7 +97,7 @@ single_given n spot size g r d room s0 rest j k m c f ends =
     ∙ single_by size room (block_at room) spot s
     ∙ simple_given n (single spot size g r d) s rest j k m room _ _ _ c same
     (after (function_number (begun s)) _ g (at (begun s) t2) (function_given (begun s) g number.0 (let less : g < 32 = omega arith in lt-ltb g 32 less))
-    (after (used_register (at (begun s) t2)) _ r (at (begun s) t3) (register_given n (at (begun s) t2) r (ap (place_of (text_at n.registers r)) c.registers ∙ c.sets.set r j below (omega arith)) register.0)
+    (after (used_register (at (begun s) t2)) _ r (at (begun s) t3) (register_given n (at (begun s) t2) r (ap (name_place (text_at n.registers r)) c.registers ∙ c.sets.set r j below (omega arith)) register.0)
     (after (move_at room (at (begun s) t3)) _ d (at (begun s) rest) (move_given n d room (at (begun s) t3) rest c.finds (second_of_both (nat_lt r j) _ more) c.deep register.1 ends.signs ends.no_move) refl)))
 
 pub setting_given : (n : Names) (spot : Spot) (r : ℕ) (e1 e2 e3 : Expression) → IsGiven n (set_register spot r e1 e2 e3)
@@ -267,7 +267,7 @@ register_read n s0 ts r j k m room reaches depth c same fits next =
     let s : State = hushed s0 in
     let below : r < j = ltb-true r j fits in
     let within : k ≤ length n.registers = c.within in
-    register_given n (at (begun s) ts) r (ap (place_of (text_at n.registers r)) c.registers ∙ c.sets.set r j below (omega arith)) next
+    register_given n (at (begun s) ts) r (ap (name_place (text_at n.registers r)) c.registers ∙ c.sets.set r j below (omega arith)) next
 
 tally_no_sign : NoSign (Some (kind.Keyword keyword.Tally))
 tally_no_sign = record { product = refl; sum = refl }

@@ -16,7 +16,7 @@ use Rattle.camac_tokens.specs.declared.token.TokenKind.TheVariants as kind
 use Rattle.camac_tokens.specs.declared.fault.NameKind.{NameKind}
 use Rattle.camac_tokens.specs.declared.fault.TextCase.{TextCase}
 use Rattle.camac_tokens.specs.declared.token.Sign.TheVariants as mark
-use Rattle.camac_text_cursor.specs.Names.{place_of, lam_place, table_place, procedure_place}
+use Rattle.camac_text_cursor.specs.Names.{name_place, lam_place, table_place, procedure_place}
 use Rattle.camac_text_cursor.specs.declared.choice.Choice.{Choice}
 use Rattle.camac_text_cursor.specs.declared.choice.Choice.TheVariants as choice
 use Rattle.camac_text_cursor.specs.Reading.{Fault, State, Reader, then_read, ◌>>◌, give, advance, check, kind_of, after_first, while_next, missing, unexpected, until, ◌>>=◌}
@@ -120,7 +120,7 @@ known_seen wanted find s0 x p found e = let s : State = hushed s0 in after (name
 
 -- each name is found at its number
 pub record Finds (n : Names) (vs : List Text) (ls : List Lam) (gs : List Table) (ps : List Procedure) (qs : List Callable) : Type 0 where
-  pub variables : (p : ℕ) → p < length vs → place_of (text_at n.variables p) vs ≡ Some p
+  pub variables : (p : ℕ) → p < length vs → name_place (text_at n.variables p) vs ≡ Some p
   pub lams : (p : ℕ) → p < length ls → lam_place (text_at n.lams p) ls ≡ Some p
   pub tables : (p : ℕ) → p < length gs → table_place (text_at n.tables p) gs ≡ Some p
   pub procedures : (p : ℕ) → p < length qs → procedure_place (text_at n.procedures p) ps ≡ Some p
@@ -137,7 +137,7 @@ lam_given n s0 p finds fits e = let s : State = hushed s0 in used_seen _ _ s (te
 pub table_given : (n : Names) (s0 : State) → let s : State = hushed s0 in (p : ℕ) → FindsAll n s → nat_lt p (length s.tables) ≡ true → kind_of s.rest ≡ Some (kind.Name (text_at n.tables p)) → used_table s ≡ ok p (at s (after_first s.rest))
 table_given n s0 p finds fits e = let s : State = hushed s0 in used_seen _ _ s (text_at n.tables p) p (finds.tables p (ltb-true p (length s.tables) fits)) e
 
-pub register_given : (n : Names) (s0 : State) → let s : State = hushed s0 in (p : ℕ) → place_of (text_at n.registers p) s.registers ≡ Some p → kind_of s.rest ≡ Some (kind.Name (text_at n.registers p)) → used_register s ≡ ok p (at s (after_first s.rest))
+pub register_given : (n : Names) (s0 : State) → let s : State = hushed s0 in (p : ℕ) → name_place (text_at n.registers p) s.registers ≡ Some p → kind_of s.rest ≡ Some (kind.Name (text_at n.registers p)) → used_register s ≡ ok p (at s (after_first s.rest))
 register_given n s0 p found e = let s : State = hushed s0 in used_seen _ _ s (text_at n.registers p) p found e
 
 pub variable_seen : (n : Names) (s0 : State) → let s : State = hushed s0 in (p : ℕ) → FindsAll n s → nat_lt p (length s.variables) ≡ true → kind_of s.rest ≡ Some (kind.Name (text_at n.variables p)) → variable_here s ≡ ok p s

@@ -18,7 +18,7 @@ use Rattle.camac_tokens.specs.declared.token.Sign.TheVariants as mark
 use Rattle.camac_tokens.specs.declared.token.Token.{Token}
 use Rattle.camac_tokens.specs.declared.token.TokenKind.{TokenKind}
 use Rattle.camac_tokens.specs.declared.token.TokenKind.TheVariants as kind
-use Rattle.camac_tokens.specs.declared.fault.TextCase.TheVariants as told
+use Rattle.camac_tokens.specs.declared.fault.TextCase.TheVariants as text_case
 use Rattle.camac_tokens.specs.declared.token.Sign.{Sign}
 use Rattle.camac_text_cursor.specs.Reading.{State, Reader, kind_of, after_first, while_next, one_more, many, ◌>>◌, miss, give, advance, fail, unexpected}
 use Rattle.camac_text_cursor.specs.Readers.{is_keyword, expect_sign, begin, each_word, is_each, expect, any_number, used_variable, procedure_here, callable_by, called, is_sign}
@@ -363,7 +363,7 @@ counted_given : (w : Sign) (shows : Option TokenKind → Bool) (wanted : ℕ) (s
 unfolding counted_sign
 counted_given w shows wanted s0 e =
     let s : State = hushed s0 in
-    let other : Bool → Reader (Unit {0}) = λ b. cond b (fail (told.ArgumentCount wanted)) (unexpected (choice.Mark w)) in
+    let other : Bool → Reader (Unit {0}) = λ b. cond b (fail (text_case.ArgumentCount wanted)) (unexpected (choice.Mark w)) in
     ap (λ (b : Bool). cond b advance (other (shows (kind_of s.rest))) s) (ap (is_sign w) e ∙ sign_same w)
 
 -- an argument begins with no `)`
@@ -374,7 +374,7 @@ value_no_bracket (Some (kind.Sign mark.LeftBracket)) e = refl
 value_no_bracket _ e = absurd cc
 
 first_given_by : (wanted room : ℕ) (s : State) → is_sign mark.RightBracket (kind_of s.rest) ≡ false → argument_after wanted room [] s ≡ expression_at room s
-first_given_by wanted room s off = ap (λ (b : Bool). cond b (fail (told.ArgumentCount wanted)) (expression_at room) s) off
+first_given_by wanted room s off = ap (λ (b : Bool). cond b (fail (text_case.ArgumentCount wanted)) (expression_at room) s) off
 
 -- those after the first
 others_read : (n : Names) (wanted : ℕ) (first : Expression) (before es : List Expression) (room : ℕ) (s0 : State) → let s : State = hushed s0 in (rest : List Token) → FindsAll n s → each (expression_fits (scope_of s)) es ≡ true → most expression_depth es ≤ room → Prefix s.rest (others (sign mark.Comma) (phrase.expression n) es) rest → NoSign (kind_of rest) → more_arguments wanted room (length es) (first ∷ before) s ≡ ok (first ∷ (before ++ es)) (at s rest)

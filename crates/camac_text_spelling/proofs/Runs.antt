@@ -17,7 +17,7 @@ use Rattle.camac_tokens.specs.declared.token.Token.{Token}
 use Rattle.camac_tokens.specs.declared.token.TokenKind.{TokenKind}
 use Rattle.camac_tokens.specs.declared.token.TokenKind.TheVariants as kind
 use Rattle.camac_tokens.specs.declared.token.Sign.TheVariants as mark
-use Rattle.camac_text_cursor.specs.Names.{place_of}
+use Rattle.camac_text_cursor.specs.Names.{name_place}
 use Rattle.camac_text_cursor.specs.Reading.{State, Reader, ◌>>◌, give, change, advance, kind_of, after_first}
 use Rattle.camac_text_cursor.specs.Tried.{Tried}
 use Rattle.camac_text_cursor.specs.Readers.{other_registers, is_keyword, new_name, with_register, register_at, set_name, begin}
@@ -37,8 +37,8 @@ use Rattle.camac_text_spelling.proofs.GivesPhrases.{is_move_sign}
 -- The registers of a body are new names, each found from its first `cdreg` on, and few with those that count beside them.
 pub record Sets (n : Names) (declared : List Text) (beside : ℕ) : Type 0 where
   pub fresh : (p : ℕ) → p < length n.registers → is_new (text_at n.registers p) declared ≡ true
-  pub set : (p j : ℕ) → p < j → j ≤ length n.registers → place_of (text_at n.registers p) (take j n.registers) ≡ Some p
-  pub unset : (j : ℕ) → j < length n.registers → place_of (text_at n.registers j) (take j n.registers) ≡ None
+  pub set : (p j : ℕ) → p < j → j ≤ length n.registers → name_place (text_at n.registers p) (take j n.registers) ≡ Some p
+  pub unset : (j : ℕ) → j < length n.registers → name_place (text_at n.registers j) (take j n.registers) ≡ None
   pub more : (j : ℕ) → j < length n.registers → take (suc j) n.registers ≡ take j n.registers ++ text_at n.registers j ∷ []
   pub few : beside + length n.registers ≤ 64
 
@@ -135,12 +135,12 @@ set_name_given n s0 r j k sets registers below reaches within ahead =
     let x : Text = text_at n.registers r in
     after (new_name s) _ x s (new_name_seen s x ahead (sets.fresh r (omega arith))) (by (nat_lt r j) refl)
   where
-    by : (b : Bool) → let s : State = hushed s0 in nat_lt r j ≡ b → register_at (text_at n.registers r) (place_of (text_at n.registers r) s.registers) s ≡ ok r (record s { rest = after_first s.rest; registers = take k n.registers })
+    by : (b : Bool) → let s : State = hushed s0 in nat_lt r j ≡ b → register_at (text_at n.registers r) (name_place (text_at n.registers r) s.registers) s ≡ ok r (record s { rest = after_first s.rest; registers = take k n.registers })
     by true e =
         let s : State = hushed s0 in
         let less : r < j = ltb-true r j e in
         let same : j ≡ k = omega arith in
-        register_set s (text_at n.registers r) (place_of (text_at n.registers r) s.registers) r (ap (place_of (text_at n.registers r)) registers ∙ sets.set r j less (omega arith))
+        register_set s (text_at n.registers r) (name_place (text_at n.registers r) s.registers) r (ap (name_place (text_at n.registers r)) registers ∙ sets.set r j less (omega arith))
         ∙ ap (λ (rs : List Text). ok r (record s { rest = after_first s.rest; registers = rs })) (registers ∙ ap (λ (i : ℕ). take i n.registers) same)
     by false e =
         let s : State = hushed s0 in
@@ -148,8 +148,8 @@ set_name_given n s0 r j k sets registers below reaches within ahead =
         let next_is : suc j ≡ k = omega arith in
         let many : length s.registers ≡ j = ap (λ (rs : List Text). length rs) registers ∙ length-take-le j n.registers (omega arith) in
         let few : other_registers s + length n.registers ≤ 64 = sets.few in
-        let found : place_of (text_at n.registers r) s.registers ≡ None = ap (place_of (text_at n.registers r)) registers ∙ ap (λ (i : ℕ). place_of (text_at n.registers i) (take j n.registers)) same ∙ sets.unset j (omega arith) in
-        register_new s (text_at n.registers r) (place_of (text_at n.registers r) s.registers) found (omega arith)
+        let found : name_place (text_at n.registers r) s.registers ≡ None = ap (name_place (text_at n.registers r)) registers ∙ ap (λ (i : ℕ). name_place (text_at n.registers i) (take j n.registers)) same ∙ sets.unset j (omega arith) in
+        register_new s (text_at n.registers r) (name_place (text_at n.registers r) s.registers) found (omega arith)
         ∙ ap (λ (i : ℕ). ok i (record s { rest = after_first s.rest; registers = s.registers ++ text_at n.registers r ∷ [] })) (many ∙ sym same)
         ∙ ap (λ (rs : List Text). ok r (record s { rest = after_first s.rest; registers = rs })) (ap (λ (rs : List Text). rs ++ text_at n.registers r ∷ []) registers ∙ ap (λ (i : ℕ). take j n.registers ++ text_at n.registers i ∷ []) same ∙ sym (sets.more j (omega arith)) ∙ ap (λ (i : ℕ). take i n.registers) next_is)
 

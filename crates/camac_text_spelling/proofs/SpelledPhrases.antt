@@ -12,13 +12,13 @@ use Rattle.camac_tokens.specs.declared.token.Sign.TheVariants as mark
 use Rattle.camac_tokens.specs.declared.token.TokenKind.{TokenKind}
 use Rattle.camac_tokens.specs.declared.token.TokenKind.TheVariants as kind
 use Rattle.camac_tokens.specs.declared.fault.Limit.TheVariants as limit
-use Rattle.camac_tokens.specs.declared.fault.TextCase.TheVariants as told
+use Rattle.camac_tokens.specs.declared.fault.TextCase.TheVariants as text_case
 use Rattle.camac_tokens.specs.declared.token.Keyword.TheVariants as keyword
 use Rattle.camac_tokens.specs.declared.token.Keyword.{Keyword}
 use Rattle.camac_text_cursor.specs.declared.choice.Choice.TheVariants as choice
 use Rattle.camac_text_cursor.specs.Reading.{State, Reader, ◌>>=◌, give, kind_of, missed, past, ◌>>◌, peek, advance, fail, check, missing, change, spot_of}
 use Rattle.camac_text_cursor.specs.Readers.{any_number, used_variable, expect_sign, is_keyword, is_sign, expect, variable_here, other_registers, branch_number, function_number, new_name, with_register, register_at, set_name, used_register, used_lam, begin}
-use Rattle.camac_text_cursor.specs.Names.{place_of}
+use Rattle.camac_text_cursor.specs.Names.{name_place}
 use Rattle.camac_text_cursor.proofs.Steps.{then_ok, err_no_ok, until_keeps, ok_is}
 use Rattle.camac_text_cursor.proofs.Moves.{any_number_ok, check_ok, function_ok, new_name_ok}
 use Rattle.camac_text_phrases.specs.Expressions.{Counted, counted, operator, divisor, bracket_by, factor_by, factor_with, is_product_sign, product_by, product_turn, product_with, is_sum_sign, joined, sum_turn, sum_with, bracketed, expression_at}
@@ -30,7 +30,7 @@ use Rattle.camac_text_spelling.specs.Pieces.{Piece, Names, word, sign, piece, fi
 use Rattle.camac_text_spelling.specs.Phrases as phrase
 use Rattle.camac_text_spelling.specs.Phrases.{expression}
 use Rattle.camac_text_spelling.specs.Statements as spell
-use Rattle.camac_text_spelling.proofs.Takes.{Took, join, returns, took_one, took_token, took_sign, took_variable, then_missed, missed_then, nothing, took_word, keyword_is, sign_is, sees_variable, seen, Knows, Tells, took_branch, named, took_register, took_lam, took_list, prefix_begin, found_later, found_last}
+use Rattle.camac_text_spelling.proofs.Takes.{Took, join, returns, took_one, took_token, took_sign, took_variable, then_missed, missed_then, nothing, took_word, keyword_is, sign_is, sees_variable, seen, Knows, KnowsNames, took_branch, named, took_register, took_lam, took_list, prefix_begin, found_later, found_last}
 use Rattle.camac_range.specs.declared.comparison.Cmp.{Cmp}
 use Rattle.camac_range.specs.declared.comparison.Cmp.TheVariants as cmp
 use Rattle.camac_text_statements.specs.Statements.{move_by, move_at, assignment, register_setting, single_action, put_action, switch_by, switch, crate_action, crate_switch, lam_action, lam_switch, lam_call_by, crate_call_by}
@@ -167,7 +167,7 @@ unfolding part_at
 took_part room s y e = took_part_by room (kind_of s.rest) s y refl e
 
 no_part : (k : Option TokenKind) (s : State) (y : Unit {0} × State) → no_part_by k s ≡ Ok y → ⊥
-no_part (Some (kind.Name x)) s y e = let m = then_ok (variable_here s) (λ _. fail (told.Limit limit.Parts)) y e in err_no_ok _ _ m.2
+no_part (Some (kind.Name x)) s y e = let m = then_ok (variable_here s) (λ _. fail (text_case.Limit limit.Parts)) y e in err_no_ok _ _ m.2
 no_part (Some (kind.Keyword keyword.Q)) s y e = err_no_ok _ _ e
 no_part (Some (kind.Keyword keyword.X)) s y e = err_no_ok _ _ e
 no_part (Some (kind.Keyword keyword.Not)) s y e = err_no_ok _ _ e
@@ -287,7 +287,7 @@ took_assignment {n} room s y e =
 
 -- ---- registers
 
-known_before : (n : Names) (s : State) (x : Text) → Knows n s.variables (s.registers ++ x ∷ []) s.lams s.tables s.procedures → Tells n s
+known_before : (n : Names) (s : State) (x : Text) → Knows n s.variables (s.registers ++ x ∷ []) s.lams s.tables s.procedures → KnowsNames n s
 known_before n s x k = record {
   variables = k.variables;
   registers = λ z p e. k.registers z p (found_later (bytes_eq z) 0 p s.registers (x ∷ []) e);
@@ -296,7 +296,7 @@ known_before n s x k = record {
   procedures = k.procedures;
 }
 
-took_register_at : {n : Names} (s : State) (x : Text) (place : Option ℕ) (y : ℕ × State) → kind_of s.rest ≡ Some (kind.Name x) → place_of x s.registers ≡ place → register_at x place s ≡ Ok y → Took n s (name_at n.registers y.0 ∷ []) y.1
+took_register_at : {n : Names} (s : State) (x : Text) (place : Option ℕ) (y : ℕ × State) → kind_of s.rest ≡ Some (kind.Name x) → name_place x s.registers ≡ place → register_at x place s ≡ Ok y → Took n s (name_at n.registers y.0 ∷ []) y.1
 took_register_at {n} s x (Some place) y next found e =
     let u : State = past s in
     returns {x = place} (λ r. name_at n.registers r ∷ []) e (named {s' = u} (text_at n.registers place) (λ t. t.registers x place found) (took_one {s' = u} next refl))
@@ -318,8 +318,8 @@ unfolding set_name
 took_set_name s y e =
     let m = then_ok (new_name s) _ y e in
     let h = new_name_ok s m.0 m.1 in
-    let at : register_at m.0.0 (place_of m.0.0 s.registers) s ≡ Ok y = subst (λ (u : State). register_at m.0.0 (place_of m.0.0 u.registers) u ≡ Ok y) h.left m.2 in
-    took_register_at s m.0.0 (place_of m.0.0 s.registers) y h.next refl at
+    let at : register_at m.0.0 (name_place m.0.0 s.registers) s ≡ Ok y = subst (λ (u : State). register_at m.0.0 (name_place m.0.0 u.registers) u ≡ Ok y) h.left m.2 in
+    took_register_at s m.0.0 (name_place m.0.0 s.registers) y h.next refl at
 
 pub took_setting : {n : Names} (room : ℕ) (s : State) (y : Statement × State) → kind_of s.rest ≡ Some (kind.Keyword keyword.Cdreg) → register_setting room (spot_of s.rest s.end_line) s ≡ Ok y → Took n s (spell.statement n y.0) y.1
 unfolding register_setting

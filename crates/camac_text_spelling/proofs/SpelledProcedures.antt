@@ -20,7 +20,7 @@ use Rattle.camac_text_spelling.specs.Pieces.{Piece, Prefix, piece, first_word, w
 use Rattle.camac_text_spelling.specs.Declarations as spell
 use Rattle.camac_text_spelling.specs.Declarations.{Passed, none_passed, pass, procedure_names}
 use Rattle.camac_text_spelling.specs.Statements.{braced, block}
-use Rattle.camac_text_spelling.proofs.Takes.{prefix_join, prefix_token, prefix_begin, found_named, found_lam, found_table, found_procedure, separated_push, Tells, Took, keyword_is, sign_is, expected}
+use Rattle.camac_text_spelling.proofs.Takes.{prefix_join, prefix_token, prefix_begin, found_named, found_lam, found_table, found_procedure, separated_push, KnowsNames, Took, keyword_is, sign_is, expected}
 use Rattle.camac_text_spelling.proofs.SpelledStatements.{took_block}
 use Rattle.camac_text_cursor.specs.declared.choice.Choice.TheVariants as choice
 use Rattle.camac_text_cursor.specs.Reading.{State, Reader, ◌>>=◌, ◌>>◌, give, ask, change, advance, kind_of, spot_of, one_more as one_more_of_reading, miss, missed, past, until}
@@ -335,7 +335,7 @@ read_heading s y e =
 -- ---- the body
 
 -- a tree with these declarations tells the names that a procedure uses, and the procedure those of its parameters and registers
-tells_inside : (s : State) (t w : Script) (p : Procedure) → Extends w t → tree_so_far s ≡ record w { variables = map parameter_of p.parameters } → p.registers ≡ s.registers → Tells (procedure_names t p) s
+tells_inside : (s : State) (t w : Script) (p : Procedure) → Extends w t → tree_so_far s ≡ record w { variables = map parameter_of p.parameters } → p.registers ≡ s.registers → KnowsNames (procedure_names t p) s
 tells_inside s t w p x tree same =
     let variables : s.variables ≡ map parameter_of p.parameters = ap (λ (z : Script). z.variables) tree in
     let lams : s.lams ≡ w.lams = ap (λ (z : Script). z.lams) tree in

@@ -32,7 +32,7 @@ use Rattle.camac_text_spelling.specs.Pieces.{Piece, first_word, numeral, name, t
 use Rattle.camac_text_spelling.specs.Declarations as spell
 use Rattle.camac_text_spelling.specs.Declarations.{service_names, script}
 use Rattle.camac_text_spelling.specs.Spells.{Spells, IsSpelled, ReadIsSpelled, example_text, example_tree}
-use Rattle.camac_text_spelling.proofs.Takes.{prefix_join, prefix_token, prefix_begin, found_named, found_lam, found_table, found_procedure, Tells, Took, join, returns, took_one, took_first, took_token, took_word, took_sign, took_branch, took_lam, then_missed}
+use Rattle.camac_text_spelling.proofs.Takes.{prefix_join, prefix_token, prefix_begin, found_named, found_lam, found_table, found_procedure, KnowsNames, Took, join, returns, took_one, took_first, took_token, took_word, took_sign, took_branch, took_lam, then_missed}
 use Rattle.camac_text_spelling.proofs.SpelledProcedures.{procedure_spelled, Declares, with_table, declares_table, with_lam, declares_lam, declares_variables, with_service, declares_service, Sofar, one_more}
 use Rattle.camac_text_spelling.proofs.SpelledStatements.{took_block}
 
@@ -41,7 +41,7 @@ use Rattle.camac_text_spelling.proofs.SpelledStatements.{took_block}
 -- ---- names
 
 -- a tree with these declarations tells the names, and the service those of its registers
-tells_names : (s : State) (t : Script) (v : Service) → Extends (tree_so_far s) t → v.registers ≡ s.registers → Tells (service_names t v) s
+tells_names : (s : State) (t : Script) (v : Service) → Extends (tree_so_far s) t → v.registers ≡ s.registers → KnowsNames (service_names t v) s
 tells_names s t v x same = record {
   variables = λ z p e. found_named z p s.variables x.variables e ∙ ap (λ (xs : List Text). text_at xs p) (sym x.variables_are);
   registers = λ z p e. found_named z p s.registers [] e ∙ ap (λ (xs : List Text). text_at xs p) (append-nil s.registers ∙ sym same);

@@ -7,7 +7,7 @@ use Rattle.camac_lang.specs.declared.spot.Spot.{Spot}
 use Rattle.camac_lang.specs.View.{block_of}
 use Rattle.camac_lang.specs.declared.word.WordSize.TheVariants.{Full, Short}
 use Rattle.camac_tokens.specs.declared.fault.Limit.TheVariants as limit
-use Rattle.camac_tokens.specs.declared.fault.TextCase.TheVariants as told
+use Rattle.camac_tokens.specs.declared.fault.TextCase.TheVariants as text_case
 use Rattle.camac_tokens.specs.declared.token.Keyword.{Keyword}
 use Rattle.camac_tokens.specs.declared.token.Keyword.TheVariants as keyword
 use Rattle.camac_tokens.specs.declared.token.Sign.TheVariants as mark
@@ -104,7 +104,7 @@ took_q_repeat {n} room s y next e =
 abbrev listed : Names → List Expression → List Piece
 listed n es = separated (sign mark.Comma) (phrase.expression n) es
 
-counted_took : {n : Names} (on shown : Bool) (w : Sign) (wanted : ℕ) (s : State) (y : Unit {0} × State) → is_sign w (kind_of s.rest) ≡ on → cond on advance (cond shown (fail (told.ArgumentCount wanted)) (unexpected (choice.Mark w))) s ≡ Ok y → Took n s (sign w ∷ []) y.1
+counted_took : {n : Names} (on shown : Bool) (w : Sign) (wanted : ℕ) (s : State) (y : Unit {0} × State) → is_sign w (kind_of s.rest) ≡ on → cond on advance (cond shown (fail (text_case.ArgumentCount wanted)) (unexpected (choice.Mark w))) s ≡ Ok y → Took n s (sign w ∷ []) y.1
 counted_took true shown w wanted s y is e = took_one (sign_is w (kind_of s.rest) is) (sym (ap (λ (p : Unit {0} × State). p.1) (ok_is _ y e)))
 counted_took false true w wanted s y is e = absurd (err_no_ok _ _ e)
 counted_took false false w wanted s y is e = absurd (err_no_ok _ _ e)
@@ -113,7 +113,7 @@ took_counted : {n : Names} (w : Sign) (shows : Option TokenKind → Bool) (wante
 unfolding counted_sign
 took_counted w shows wanted s y e = counted_took (is_sign w (kind_of s.rest)) (shows (kind_of s.rest)) w wanted s y refl e
 
-first_took : {n : Names} (b : Bool) (wanted room : ℕ) (u : State) (y : Expression × State) → cond b (fail (told.ArgumentCount wanted)) (expression_at room) u ≡ Ok y → Took n u (phrase.expression n y.0) y.1
+first_took : {n : Names} (b : Bool) (wanted room : ℕ) (u : State) (y : Expression × State) → cond b (fail (text_case.ArgumentCount wanted)) (expression_at room) u ≡ Ok y → Took n u (phrase.expression n y.0) y.1
 first_took true wanted room u y e = absurd (err_no_ok _ _ e)
 first_took false wanted room u y e = took_expression room u y e
 
@@ -131,7 +131,7 @@ took_more {n} wanted room (suc m) es s u y before e =
     let a = then_ok (argument_after wanted room es u) _ y e in
     took_more wanted room m (es ++ a.0.0 ∷ []) s a.0.1 y (took_argument wanted room es s u a.0 before a.1) a.2
 
-no_room : (b : Bool) (s : State) (y : List Expression × State) → cond b (fail (told.Limit limit.Depth)) (unexpected (choice.Mark mark.LeftBracket)) s ≡ Ok y → ⊥
+no_room : (b : Bool) (s : State) (y : List Expression × State) → cond b (fail (text_case.Limit limit.Depth)) (unexpected (choice.Mark mark.LeftBracket)) s ≡ Ok y → ⊥
 no_room true s y e = err_no_ok _ _ e
 no_room false s y e = err_no_ok _ _ e
 
@@ -312,7 +312,7 @@ took_turn n room block block_took s xs u y before e =
     let m = then_ok (statement_with room block u) (λ x. give (xs ++ x ∷ [])) y e in
     returns {x = xs ++ m.0.0 ∷ []} (body n) m.2 (subst (λ (ps : List Piece). Took n s ps m.0.1) (sym (block_push n xs m.0.0)) (join before (took_statement n room block block_took u m.0 m.1)))
 
-no_room_for_block : (b : Bool) (s : State) (y : List Statement × State) → cond b (fail (told.Limit limit.Depth)) (unexpected (choice.Mark mark.LeftBrace)) s ≡ Ok y → ⊥
+no_room_for_block : (b : Bool) (s : State) (y : List Statement × State) → cond b (fail (text_case.Limit limit.Depth)) (unexpected (choice.Mark mark.LeftBrace)) s ≡ Ok y → ⊥
 no_room_for_block true s y e = err_no_ok _ _ e
 no_room_for_block false s y e = err_no_ok _ _ e
 

@@ -15,7 +15,7 @@ use Rattle.camac_tokens.specs.declared.token.Sign.{Sign}
 use Rattle.camac_tokens.specs.declared.token.TokenKind.TheVariants as kind
 use Rattle.camac_tokens.specs.declared.fault.NameKind.{NameKind}
 use Rattle.camac_text_cursor.specs.Reading.{kind_of, spot_of, after_first, ◌>>◌, State, advance, give, Fault, missed, past, unexpected, Reader, ◌>>=◌, until}
-use Rattle.camac_text_cursor.specs.Names.{place_of, lam_place, table_place, procedure_place}
+use Rattle.camac_text_cursor.specs.Names.{name_place, lam_place, table_place, procedure_place}
 use Rattle.camac_text_cursor.specs.declared.choice.Choice.{Choice}
 use Rattle.camac_text_cursor.specs.declared.choice.Choice.TheVariants as choice
 use Rattle.camac_text_cursor.specs.Readers.{is_keyword, is_sign, expect, expect_sign, number_here, branch_number, used, used_register, used_variable, used_lam, used_table, variable_here, procedure_here, callable_by, called}
@@ -65,19 +65,19 @@ prefix_spot (t ∷ ts) end_line spot k ps rest f = (ap Some f.0.0, f.0.1, f.1)
 
 -- These are the names of what is declared so far.
 pub record Knows (n : Names) (vs rs : List Text) (ls : List Lam) (gs : List Table) (ps : List Procedure) : Type 0 where
-  pub variables : (x : Text) (p : ℕ) → place_of x vs ≡ Some p → x ≡ text_at n.variables p
-  pub registers : (x : Text) (p : ℕ) → place_of x rs ≡ Some p → x ≡ text_at n.registers p
+  pub variables : (x : Text) (p : ℕ) → name_place x vs ≡ Some p → x ≡ text_at n.variables p
+  pub registers : (x : Text) (p : ℕ) → name_place x rs ≡ Some p → x ≡ text_at n.registers p
   pub lams : (x : Text) (p : ℕ) → lam_place x ls ≡ Some p → x ≡ text_at n.lams p
   pub tables : (x : Text) (p : ℕ) → table_place x gs ≡ Some p → x ≡ text_at n.tables p
   pub procedures : (x : Text) (p : ℕ) → procedure_place x ps ≡ Some p → x ≡ text_at n.procedures p
 
-abbrev pub Tells : Names → State → Type 0
-Tells n s = Knows n s.variables s.registers s.lams s.tables s.procedures
+abbrev pub KnowsNames : Names → State → Type 0
+KnowsNames n s = Knows n s.variables s.registers s.lams s.tables s.procedures
 
 -- The tokens between two states are these pieces, and no declaration is between them.
 pub record Took (n : Names) (s : State) (ps : List Piece) (s' : State) : Type 0 where
-  pub prefix : Tells n s' → Prefix s.rest ps s'.rest
-  pub tells : Tells n s' → Tells n s
+  pub prefix : KnowsNames n s' → Prefix s.rest ps s'.rest
+  pub tells : KnowsNames n s' → KnowsNames n s
   pub same : tree_so_far s' ≡ tree_so_far s
 
 pub join : {n : Names} {s : State} {ps : List Piece} {u : State} {qs : List Piece} {v : State} → Took n s ps u → Took n u qs v → Took n s (ps ++ qs) v
@@ -148,7 +148,7 @@ took_branch {n} s y e =
 -- ---- names
 
 -- the piece is another where the names are known
-pub named : {n : Names} {s : State} {x : Text} {s' : State} (y : Text) → (Tells n s' → x ≡ y) → Took n s (piece (kind.Name x) ∷ []) s' → Took n s (piece (kind.Name y) ∷ []) s'
+pub named : {n : Names} {s : State} {x : Text} {s' : State} (y : Text) → (KnowsNames n s' → x ≡ y) → Took n s (piece (kind.Name x) ∷ []) s' → Took n s (piece (kind.Name y) ∷ []) s'
 named {n} {s} {x} {s'} y same took = record {
   prefix = λ t. subst (λ (z : Text). Prefix s.rest (piece (kind.Name z) ∷ []) s'.rest) (same t) (took.prefix t);
   tells = took.tells;
@@ -156,7 +156,7 @@ named {n} {s} {x} {s'} y same took = record {
 }
 
 -- a name that is used, where it stands in a list
-took_used : {n : Names} (wanted : NameKind) (find : Text → State → Option ℕ) (names : List Text) (s : State) (y : ℕ × State) → used wanted find s ≡ Ok y → ((x : Text) → Tells n s → find x s ≡ Some y.0 → x ≡ text_at names y.0) → Took n s (name_at names y.0 ∷ []) y.1
+took_used : {n : Names} (wanted : NameKind) (find : Text → State → Option ℕ) (names : List Text) (s : State) (y : ℕ × State) → used wanted find s ≡ Ok y → ((x : Text) → KnowsNames n s → find x s ≡ Some y.0 → x ≡ text_at names y.0) → Took n s (name_at names y.0 ∷ []) y.1
 took_used {n} wanted find names s y e tells =
     let u = used_ok wanted find s y e in
     let one : Took n s (piece (kind.Name u.name) ∷ []) y.1 = took_one u.next u.left in
@@ -178,8 +178,8 @@ took_table {n} s y e = took_used _ _ n.tables s y e (λ x t found. t.tables x y.
 pub record SeesVariable (n : Names) (s : State) (place : ℕ) (s' : State) : Type 0 where
   pub name : Text
   pub next : kind_of s.rest ≡ Some (kind.Name name)
-  pub found : place_of name s.variables ≡ Some place
-  pub same : Tells n s → name ≡ text_at n.variables place
+  pub found : name_place name s.variables ≡ Some place
+  pub same : KnowsNames n s → name ≡ text_at n.variables place
   pub left : s' ≡ s
 
 pub sees_variable : {n : Names} (s : State) (y : ℕ × State) → variable_here s ≡ Ok y → SeesVariable n s y.0 y.1
@@ -195,7 +195,7 @@ seen {n} {s} {place} here took = named (text_at n.variables place) (λ t. here.s
 pub record SeesProcedure (n : Names) (s : State) (place : ℕ) (s' : State) : Type 0 where
   pub name : Text
   pub next : kind_of s.rest ≡ Some (kind.Name name)
-  pub same : Tells n s → name ≡ text_at n.procedures place
+  pub same : KnowsNames n s → name ≡ text_at n.procedures place
   pub left : s' ≡ s
 
 pub sees_procedure : {n : Names} (s : State) (y : ℕ × State) → procedure_here s ≡ Ok y → SeesProcedure n s y.0 y.1
@@ -264,7 +264,7 @@ last_from x i (y ∷ ys) e = goes (bytes_eq x y) (λ h. last_from x (i + 1) ys h
   goes true more h = absurd cc
   goes false more h = more h ∙ ap (λ (k : ℕ). Some k) (omega arith)
 
-pub found_last : (x : Text) (xs : List Text) → place_of x xs ≡ None → place_of x (xs ++ x ∷ []) ≡ Some (length xs)
+pub found_last : (x : Text) (xs : List Text) → name_place x xs ≡ None → name_place x (xs ++ x ∷ []) ≡ Some (length xs)
 found_last x xs e = last_from x 0 xs e ∙ ap (λ (k : ℕ). Some k) (omega arith)
 
 -- the name that is found stands there, whatever is after
@@ -278,7 +278,7 @@ named_from x i p (z ∷ zs) ys e = goes (bytes_eq x z) refl (λ h. named_from x 
   goes true same more h = (0, (let here : i ≡ p = some_is i p h in omega arith), (bytes_eq-Decides x z).0 same)
   goes false same more h = let m = more h in (suc m.0, (let at : p ≡ (i + 1) + m.0 = m.1 in omega arith), m.2)
 
-pub found_named : (x : Text) (p : ℕ) (xs ys : List Text) → place_of x xs ≡ Some p → x ≡ text_at (xs ++ ys) p
+pub found_named : (x : Text) (p : ℕ) (xs ys : List Text) → name_place x xs ≡ Some p → x ≡ text_at (xs ++ ys) p
 found_named x p xs ys e =
     let m = named_from x 0 p xs ys e in
     let same : p ≡ m.0 = (let at : p ≡ 0 + m.0 = m.1 in omega arith) in

@@ -12,7 +12,7 @@ use Rattle.camac_lang.specs.Scope.{Before, declared}
 use Rattle.camac_lang.specs.Statements.{statements}
 use Rattle.camac_lang.specs.declared.spot.Spot.{Spot}
 use Rattle.camac_lang.proofs.Options.{then_parts}
-use Rattle.camac_text_cursor.specs.Names.{place_of}
+use Rattle.camac_text_cursor.specs.Names.{name_place}
 use Rattle.camac_text_cursor.specs.Reading.{State, kind_of}
 use Rattle.camac_text_cursor.specs.Readers.{is_name as next_is_name, is_number as next_is_number}
 use Rattle.camac_text_cursor.proofs.Registers.{both, first_of_both, second_of_both}
@@ -57,7 +57,7 @@ found_from (x ∷ xs) ys i (suc p) (suc j) e below within =
     ap (λ (b : Bool). cond b (Some i) (position_from (bytes_eq (text_at xs p)) (i + 1) (take j xs))) (apart x xs ys p rest (omega arith))
     ∙ found_from xs (x ∷ ys) (i + 1) p j rest (omega arith) (omega arith) ∙ ap (λ (k : ℕ). Some k) (omega arith)
 
-pub found_there : (xs ys : List Text) (p j : ℕ) → are_new xs ys ≡ true → p < j → j ≤ length xs → place_of (text_at xs p) (take j xs) ≡ Some p
+pub found_there : (xs ys : List Text) (p j : ℕ) → are_new xs ys ≡ true → p < j → j ≤ length xs → name_place (text_at xs p) (take j xs) ≡ Some p
 found_there xs ys p j e below within = found_from xs ys 0 p j e below within ∙ ap (λ (k : ℕ). Some k) (omega arith)
 
 -- and not before
@@ -69,7 +69,7 @@ absent_from (x ∷ xs) ys i (suc j) e below =
     ap (λ (b : Bool). cond b (Some i) (position_from (bytes_eq (text_at xs j)) (i + 1) (take j xs))) (apart x xs ys j rest (omega arith))
     ∙ absent_from xs (x ∷ ys) (i + 1) j rest (omega arith)
 
-pub absent_there : (xs ys : List Text) (j : ℕ) → are_new xs ys ≡ true → j < length xs → place_of (text_at xs j) (take j xs) ≡ None
+pub absent_there : (xs ys : List Text) (j : ℕ) → are_new xs ys ≡ true → j < length xs → name_place (text_at xs j) (take j xs) ≡ None
 absent_there xs ys j e below = absent_from xs ys 0 j e below
 
 pub take_next : (xs : List Text) (j : ℕ) → j < length xs → take (suc j) xs ≡ take j xs ++ text_at xs j ∷ []
@@ -240,8 +240,8 @@ map_length : {A : Type 0} (f : A → Text) (xs : List A) → length (map f xs) �
 map_length f [] = refl
 map_length f (x ∷ xs) = ap suc (map_length f xs)
 
-new_found : (xs : List Text) (p : ℕ) → are_new xs [] ≡ true → p < length xs → place_of (text_at xs p) xs ≡ Some p
-new_found xs p e below = ap (place_of (text_at xs p)) (sym (take_all xs)) ∙ found_there xs [] p (length xs) e below (omega arith)
+new_found : (xs : List Text) (p : ℕ) → are_new xs [] ≡ true → p < length xs → name_place (text_at xs p) xs ≡ Some p
+new_found xs p e below = ap (name_place (text_at xs p)) (sym (take_all xs)) ∙ found_there xs [] p (length xs) e below (omega arith)
 
 -- the first of a list, each found by its name
 found_first : {A : Type 0} {f : A → Text} {declared : List Text} {j : ℕ} {xs all : List A} → AreFirst f declared j xs all → (p : ℕ) → p < length xs → position_from (λ x. bytes_eq (text_at (map f all) p) (f x)) 0 xs ≡ Some p
@@ -261,7 +261,7 @@ finds_names t b s v st = record {
       let many : length s.variables ≡ b.variables = ap (λ (xs : List Text). length xs) st.variables ∙ length-take-le b.variables t.variables st.variables_within in
       let within : b.variables ≤ length t.variables = st.variables_within in
       let same : text_at t.variables p ≡ text_at s.variables p = prefix_text t.variables b.variables p (omega arith) within ∙ ap (λ (xs : List Text). text_at xs p) (sym st.variables) in
-      ap (λ (x : Text). place_of x s.variables) same ∙ new_found s.variables p st.new_variables below;
+      ap (λ (x : Text). name_place x s.variables) same ∙ new_found s.variables p st.new_variables below;
   lams = found_first st.lams;
   tables = found_first st.tables;
   procedures = λ p below. let called : length s.callables ≡ length s.procedures = st.called in found_first st.procedures p (omega arith);

@@ -5,7 +5,7 @@ use Rattle.camac_lang.specs.Depth.{statement_depth}
 use Rattle.camac_lang.specs.Statements.{after, statements_in}
 use Rattle.camac_lang.specs.Tree.{Text, Statement}
 use Rattle.camac_tokens.specs.declared.fault.Limit.TheVariants as limit
-use Rattle.camac_tokens.specs.declared.fault.TextCase.TheVariants as told
+use Rattle.camac_tokens.specs.declared.fault.TextCase.TheVariants as text_case
 use Rattle.camac_tokens.specs.declared.token.TokenKind.{TokenKind}
 use Rattle.camac_text_cursor.specs.declared.choice.Choice.{Choice}
 use Rattle.camac_text_cursor.specs.Reading.{State, ◌>>◌, change, advance, kind_of, after_first, missed, past}
@@ -22,7 +22,7 @@ begun s = record (past s) { statements = suc s.statements }
 pub begin_ok : (s : State) (y : Unit {0} × State) → begin s ≡ Ok y → (s.statements < 4096) × (y.1 ≡ begun s)
 unfolding begin
 begin_ok s y e =
-    let c = check_ok (nat_lt s.statements 4096) (told.Limit limit.Statements) (change (λ u. record u { statements = suc u.statements }) >> advance) s y e in
+    let c = check_ok (nat_lt s.statements 4096) (text_case.Limit limit.Statements) (change (λ u. record u { statements = suc u.statements }) >> advance) s y e in
     (ltb-true s.statements 4096 c.0, sym (ap (λ (p : Unit {0} × State). p.1) (ok_is (tt, begun s) y c.1)))
 
 -- a statement is read, where so many brackets and braces may be open

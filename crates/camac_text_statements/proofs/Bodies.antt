@@ -16,7 +16,7 @@ use Rattle.camac_tokens.specs.declared.token.Sign.TheVariants as sign
 use Rattle.camac_tokens.specs.declared.token.TokenKind.{TokenKind}
 use Rattle.camac_tokens.specs.declared.token.TokenKind.TheVariants as kind
 use Rattle.camac_tokens.specs.declared.fault.Limit.TheVariants as limit
-use Rattle.camac_tokens.specs.declared.fault.TextCase.TheVariants as told
+use Rattle.camac_tokens.specs.declared.fault.TextCase.TheVariants as text_case
 use Rattle.camac_text_cursor.specs.declared.choice.Choice.TheVariants as choice
 use Rattle.camac_text_cursor.specs.Reading.{State, Reader, kind_of, spot_of, missed, ◌>>=◌, give, peek, past, then_read, ◌>>◌, after_first, fail, one_more, many, unexpected}
 use Rattle.camac_text_cursor.specs.Readers.{begin, expect_sign, branch_number, function_number, set_name, used_register, used_variable, variable_here, is_sign}
@@ -304,7 +304,7 @@ module _ (room : ℕ) (block : Reader (List Statement)) (block_is : (s : State) 
 
 -- ---- a body in its braces
 
-no_room : (b : Bool) (s : State) (y : List Statement × State) → cond b (fail (told.Limit limit.Depth)) (unexpected (choice.Mark sign.LeftBrace)) s ≡ Ok y → ⊥
+no_room : (b : Bool) (s : State) (y : List Statement × State) → cond b (fail (text_case.Limit limit.Depth)) (unexpected (choice.Mark sign.LeftBrace)) s ≡ Ok y → ⊥
 no_room true s y e = err_no_ok _ _ e
 no_room false s y e = err_no_ok _ _ e
 

@@ -5,7 +5,7 @@ use Rattle.camac_lang.specs.View.{block_of}
 use Rattle.camac_lang.specs.declared.word.WordSize.{WordSize}
 use Rattle.camac_lang.specs.declared.word.WordSize.TheVariants.{Full, Short}
 use Rattle.camac_tokens.specs.declared.fault.Limit.TheVariants as limit
-use Rattle.camac_tokens.specs.declared.fault.TextCase.TheVariants as told
+use Rattle.camac_tokens.specs.declared.fault.TextCase.TheVariants as text_case
 use Rattle.camac_tokens.specs.declared.token.Keyword.TheVariants as word
 use Rattle.camac_tokens.specs.declared.token.Sign.TheVariants as sign
 use Rattle.camac_tokens.specs.declared.token.TokenKind.{TokenKind}
@@ -277,8 +277,8 @@ module _ (room : ℕ) (block : Reader (List Statement)) (block_is : (s : State) 
   begins_locking : (spot : Spot) (s : State) → IsHere s → Begins (lock_statement room block spot) s
   unfolding lock_statement
   begins_locking spot s here =
-      begins_ask (λ w. w.in_procedure) (λ w ts n. refl) (λ b. check (not b) told.LockInProcedure >> (begin >> (expression_at room >>= λ e. block >>= λ xs. give (locked spot e (block_of xs))))) s
-      (begins_check (not s.in_procedure) told.LockInProcedure (begin >> (expression_at room >>= λ e. block >>= λ xs. give (locked spot e (block_of xs)))) s refl tt (λ _.
+      begins_ask (λ w. w.in_procedure) (λ w ts n. refl) (λ b. check (not b) text_case.LockInProcedure >> (begin >> (expression_at room >>= λ e. block >>= λ xs. give (locked spot e (block_of xs))))) s
+      (begins_check (not s.in_procedure) text_case.LockInProcedure (begin >> (expression_at room >>= λ e. block >>= λ xs. give (locked spot e (block_of xs)))) s refl tt (λ _.
       begins_then begin (λ _. expression_at room >>= λ e. block >>= λ xs. give (locked spot e (block_of xs))) s (begins_begin s here) (λ _ u.
       local_then (expression_at room) (λ e. block >>= λ xs. give (locked spot e (block_of xs))) u (local_expression room u) (λ e u.
       local_then block (λ xs. give (locked spot e (block_of xs))) u (block_local u) (λ xs u. local_give (locked spot e (block_of xs)) u)))))
@@ -352,6 +352,6 @@ module _ (room : ℕ) (block : Reader (List Statement)) (block_is : (s : State) 
 pub local_block : (room : ℕ) (s : State) → IsLocal (block_at room) s
 unfolding block_at
 local_block zero s =
-    local_test (choice.Mark sign.LeftBrace) (is_sign sign.LeftBrace) (λ at. refl) (fail (told.Limit limit.Depth)) (fail told.Unexpected) s (λ u _. begins_fail (told.Limit limit.Depth) u refl tt) (λ u. local_fail told.Unexpected u tt)
+    local_test (choice.Mark sign.LeftBrace) (is_sign sign.LeftBrace) (λ at. refl) (fail (text_case.Limit limit.Depth)) (fail text_case.Unexpected) s (λ u _. begins_fail (text_case.Limit limit.Depth) u refl tt) (λ u. local_fail text_case.Unexpected u tt)
 local_block (suc room) s =
     local_then (expect_sign sign.LeftBrace) (λ _. many is_no_end (statement_with room (block_at room)) >>= λ body. expect_sign sign.RightBrace >> give body) s (local_expect_sign sign.LeftBrace s) (λ _ u. local_statements room (block_at room) (block_ok room) (local_block room) u)

@@ -8,7 +8,7 @@ use Rattle.camac_lang.specs.Statements.{keeps_fit, after_block}
 use Rattle.camac_lang.specs.Tests.{most, unless_broken, is_number}
 use Rattle.camac_lang.specs.Tree.{Expression, Condition, Keep, Statement, number, for_, for_each, while_, locked}
 use Rattle.camac_lang.specs.View.{block_of}
-use Rattle.camac_tokens.specs.declared.fault.TextCase.TheVariants as told
+use Rattle.camac_tokens.specs.declared.fault.TextCase.TheVariants as text_case
 use Rattle.camac_tokens.specs.declared.token.Keyword.TheVariants as word
 use Rattle.camac_tokens.specs.declared.token.Sign.TheVariants as sign
 use Rattle.camac_tokens.specs.declared.token.TokenKind.{TokenKind}
@@ -195,7 +195,7 @@ module _ (room : ℕ) (block : Reader (List Statement)) (block_is : (s : State) 
   unfolding lock_statement
   locking_is s j spot y next e =
       let rest : Reader Statement = expression_at room >>= λ c. block >>= λ xs. give (locked spot c (block_of xs)) in
-      let free = check_ok (not s.in_procedure) told.LockInProcedure (begin >> rest) s y e in
+      let free = check_ok (not s.in_procedure) text_case.LockInProcedure (begin >> rest) s y e in
       let z = then_ok (begin s) (λ _. rest) y free.1 in
       let begins = begin_ok s z.0 z.1 in
       let b : State = begun s in

@@ -14,7 +14,7 @@ use Rattle.camac_tokens.specs.declared.token.Sign.TheVariants as sign
 use Rattle.camac_tokens.specs.declared.token.TokenKind.{TokenKind}
 use Rattle.camac_tokens.specs.declared.token.TokenKind.TheVariants as kind
 use Rattle.camac_tokens.specs.declared.fault.Limit.TheVariants as limit
-use Rattle.camac_tokens.specs.declared.fault.TextCase.TheVariants as told
+use Rattle.camac_tokens.specs.declared.fault.TextCase.TheVariants as text_case
 use Rattle.camac_text_cursor.specs.declared.choice.Choice.TheVariants as choice
 use Rattle.camac_text_cursor.specs.Reading.{Reader, ◌>>=◌, ◌>>◌, give, peek, advance, spot_here, miss, missing, fail, unexpected, many, ask, check, State, Fault}
 use Rattle.camac_text_cursor.specs.Readers.{begin, is_sign, is_each, expect, expect_sign, any_number, branch_number, function_number, set_name, used_register, used_variable, variable_here, used_lam}
@@ -212,7 +212,7 @@ while_statement room block spot = do
 unfoldable pub lock_statement : ℕ → Reader (List Statement) → Spot → Reader Statement
 lock_statement room block spot = do
   is_procedure ← ask (λ s. s.in_procedure)
-  check (not is_procedure) told.LockInProcedure
+  check (not is_procedure) text_case.LockInProcedure
   begin
   crate_no ← expression_at room
   body ← block
@@ -258,7 +258,7 @@ is_no_end k = not (is_sign sign.RightBrace k)
 
 -- a block, where so many braces may be open at once
 unfoldable pub block_at : ℕ → Reader (List Statement)
-block_at zero = peek >>= λ k. if is_sign sign.LeftBrace k then fail (told.Limit limit.Depth) else unexpected (choice.Mark sign.LeftBrace)
+block_at zero = peek >>= λ k. if is_sign sign.LeftBrace k then fail (text_case.Limit limit.Depth) else unexpected (choice.Mark sign.LeftBrace)
 block_at (suc room) = do
   expect_sign sign.LeftBrace
   body ← many is_no_end (statement_with room (block_at room))

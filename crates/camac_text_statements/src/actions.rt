@@ -7,7 +7,7 @@ ghost use Rattle.camac_text_statements.specs.Statements.{Adds, assignment, regis
 ghost use Rattle.camac_text_cursor.specs.Parser.{state, Gives};
 
 use camac_lang::{
-    Assignment, Move, PutAction, RegisterSetting, SingleAction, Spot, Stmt, WordSize,
+    Action, Assignment, Move, PutAction, RegisterSetting, SingleAction, Spot, Stmt, WordSize,
 };
 use camac_text_cursor::{Choice, Parser};
 use camac_text_phrases::expression;
@@ -26,11 +26,11 @@ pub fn assignment(
     parser.begin()?;
     parser.expect_sign(Sign::Equals)?;
     let value = expression(parser, room)?;
-    body.push(Stmt::Assign(Assignment {
+    body.push(Stmt::Action(Action::Assign(Assignment {
         spot,
         variable,
         value,
-    }))?;
+    })))?;
     Ok(())
 }
 
@@ -49,13 +49,13 @@ pub fn register_setting(
     let crate_no = expression(parser, room)?;
     let station = expression(parser, room)?;
     let sub_address = expression(parser, room)?;
-    body.push(Stmt::SetRegister(RegisterSetting {
+    body.push(Stmt::Action(Action::SetRegister(RegisterSetting {
         spot,
         register,
         crate_no,
         station,
         sub_address,
-    }))?;
+    })))?;
     Ok(())
 }
 
@@ -73,13 +73,13 @@ pub fn single_action(
     let function = parser.function_number()?;
     let register = parser.used_register()?;
     let data = data_move(parser, room)?;
-    body.push(Stmt::Single(SingleAction {
+    body.push(Stmt::Action(Action::Single(SingleAction {
         spot,
         size,
         function,
         register,
         data,
-    }))?;
+    })))?;
     Ok(())
 }
 
@@ -117,6 +117,6 @@ pub fn put_action(
 {
     parser.begin()?;
     let value = expression(parser, room)?;
-    body.push(Stmt::Put(PutAction { spot, value }))?;
+    body.push(Stmt::Action(Action::Put(PutAction { spot, value })))?;
     Ok(())
 }

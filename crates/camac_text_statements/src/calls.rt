@@ -5,7 +5,7 @@ ghost use Rattle.camac_lang.specs.View.{statement_of};
 ghost use Rattle.camac_text_statements.specs.Statements.{switch, crate_action, crate_switch, lam_action, lam_switch};
 ghost use Rattle.camac_text_cursor.specs.Parser.{state, Gives};
 
-use camac_lang::{CrateAction, CrateCall, LamAction, LamCall, Spot, Stmt};
+use camac_lang::{Action, CrateAction, CrateCall, LamAction, LamCall, Spot, Stmt};
 use camac_text_cursor::{Choice, Parser};
 use camac_text_phrases::expression;
 use camac_tokens::{Keyword, TextFault, TokenKind};
@@ -21,11 +21,11 @@ pub fn crate_action(
 {
     parser.begin()?;
     let crate_no = expression(parser, room)?;
-    Ok(Stmt::CrateCall(CrateAction {
+    Ok(Stmt::Action(Action::CrateCall(CrateAction {
         spot,
         call,
         crate_no,
-    }))
+    })))
 }
 
 /// A crate call that is switched on or off.
@@ -42,11 +42,11 @@ pub fn crate_switch(
     parser.begin()?;
     let crate_no = expression(parser, room)?;
     let call = if switch(parser)? { on } else { off };
-    Ok(Stmt::CrateCall(CrateAction {
+    Ok(Stmt::Action(Action::CrateCall(CrateAction {
         spot,
         call,
         crate_no,
-    }))
+    })))
 }
 
 #[tactic(auto, unfolding(crate::specs::Statements::lam_action))]
@@ -55,7 +55,7 @@ pub fn lam_action(parser: &mut Parser<'_>, call: LamCall, spot: Spot) -> Result<
 {
     parser.begin()?;
     let lam = parser.used_lam()?;
-    Ok(Stmt::LamCall(LamAction { spot, call, lam }))
+    Ok(Stmt::Action(Action::LamCall(LamAction { spot, call, lam })))
 }
 
 #[tactic(auto, unfolding(crate::specs::Statements::lam_switch))]
@@ -69,7 +69,7 @@ pub fn lam_switch(parser: &mut Parser<'_>, spot: Spot) -> Result<Stmt, TextFault
     } else {
         LamCall::Disable
     };
-    Ok(Stmt::LamCall(LamAction { spot, call, lam }))
+    Ok(Stmt::Action(Action::LamCall(LamAction { spot, call, lam })))
 }
 
 /// Whether `on` stands next, and not `off`.

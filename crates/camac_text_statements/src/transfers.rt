@@ -5,7 +5,7 @@ ghost use Rattle.camac_lang.specs.View.{expression_of, statement_of};
 ghost use Rattle.camac_text_cursor.specs.Parser.{state, Gives};
 ghost use Rattle.camac_text_statements.specs.Transfers.{last_bound, table_at, scan_statement, q_stop_statement, q_repeat_statement, call_statement};
 
-use camac_lang::{AddressScan, BlockTransfer, Expr, ProcedureCall, Spot, Stmt};
+use camac_lang::{Action, AddressScan, BlockTransfer, Expr, ProcedureCall, Spot, Stmt};
 use camac_text_cursor::{Choice, Parser};
 use camac_text_phrases::{arguments, expression};
 use camac_tokens::{Keyword, TextFault, TokenKind};
@@ -20,14 +20,14 @@ pub fn scan(parser: &mut Parser<'_>, room: u32, spot: Spot) -> Result<Stmt, Text
     let first = parser.used_register()?;
     let last = parser.used_register()?;
     let (max, tally) = last_bound(parser, Keyword::Max, room)?;
-    Ok(Stmt::Scan(AddressScan {
+    Ok(Stmt::Action(Action::Scan(AddressScan {
         spot,
         function,
         first,
         last,
         max,
         tally,
-    }))
+    })))
 }
 
 /// `cfubc`
@@ -48,7 +48,7 @@ pub fn q_stop(parser: &mut Parser<'_>, room: u32, spot: Spot) -> Result<Stmt, Te
         max,
         tally,
     };
-    Ok(Stmt::QStop { transfer })
+    Ok(Stmt::Action(Action::QStop { transfer }))
 }
 
 /// `cfubr`
@@ -71,7 +71,7 @@ pub fn q_repeat(parser: &mut Parser<'_>, room: u32, spot: Spot) -> Result<Stmt, 
         max,
         tally,
     };
-    Ok(Stmt::QRepeat { transfer, limit })
+    Ok(Stmt::Action(Action::QRepeat { transfer, limit }))
 }
 
 /// The table of a write, if one is named.
@@ -117,9 +117,9 @@ pub fn call(parser: &mut Parser<'_>, room: u32, spot: Spot) -> Result<Stmt, Text
     let procedure = parser.procedure_here()?;
     let wanted = parser.called(room, procedure)?;
     let arguments = arguments(parser, room, wanted)?;
-    Ok(Stmt::Call(ProcedureCall {
+    Ok(Stmt::Action(Action::Call(ProcedureCall {
         spot,
         procedure,
         arguments,
-    }))
+    })))
 }

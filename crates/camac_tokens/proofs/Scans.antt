@@ -13,7 +13,7 @@ use Rattle.camac_tokens.specs.Start.{Start}
 use Rattle.camac_tokens.specs.Start as start
 use Rattle.camac_tokens.specs.declared.fault.Limit.TheVariants.{NameBytes}
 use Rattle.camac_tokens.specs.declared.fault.TextCase.{TextCase}
-use Rattle.camac_tokens.specs.declared.fault.TextCase.TheVariants as told
+use Rattle.camac_tokens.specs.declared.fault.TextCase.TheVariants as text_case
 use Rattle.camac_tokens.specs.Fault.{Fault}
 use Rattle.camac_tokens.specs.Scanning.{is_name_byte, is_blank, is_no_line_feed, keyword_or, number_or_fault, pair_at, single_at, pair_or_single, start_of, wrong, decimal_value, tokens_from, tokens_by, with_first, line_after, spot_at}
 use Rattle.camac_tokens.specs.Words.{keyword}
@@ -178,17 +178,6 @@ grows : (a : ℕ) (ys : List ℕ) → a ≤ fold (λ n d. 10 * n + (d - 48)) a y
 grows a [] = omega arith
 grows a (y ∷ ys) = let more : 10 * a + (y - 48) ≤ fold (λ n d. 10 * n + (d - 48)) (10 * a + (y - 48)) ys = grows (10 * a + (y - 48)) ys in omega arith
 
-fold_take : (n a : ℕ) (xs : List ℕ) → fold (λ n d. 10 * n + (d - 48)) a (take n xs) ≤ fold (λ n d. 10 * n + (d - 48)) a xs
-fold_take zero a xs = grows a xs
-fold_take (suc n) a [] = omega arith
-fold_take (suc n) a (x ∷ xs) = fold_take n (10 * a + (x - 48)) xs
-
-pub too_large : (digits : List ℕ) (n v : ℕ) → v ≡ decimal_value (take n digits) → 4294967295 < v → (let o : Option ℕ = None in o) ≡ cond (ltb (decimal_value digits) 4294967296) (Some (decimal_value digits)) None
-too_large digits n v e above =
-    let h : decimal_value (take n digits) ≤ decimal_value digits = fold_take n 0 digits in
-    let off : ltb (decimal_value digits) 4294967296 ≡ false = le-ltb _ _ (omega arith) in
-    rw off refl
-
 -- ---- the size of what stands at the start
 
 abbrev pub Sized : Start → ℕ → Type 0
@@ -239,18 +228,28 @@ fault_either : (b : Bool) (f g : Start) (s : TextCase) → FaultIs f s → Fault
 fault_either true f g s one other = one
 fault_either false f g s one other = other
 
-fault_word : (k : Option Keyword) (text : List ℕ) → FaultIs (keyword_or k text) (told.Limit NameBytes)
+fault_word : (k : Option Keyword) (text : List ℕ) → FaultIs (keyword_or k text) (text_case.Limit NameBytes)
 fault_word (Some w) text = λ case e. absurd cc
-fault_word None text = fault_either (ltb 32 (length text)) _ _ (told.Limit NameBytes) (λ case e. refl) (λ case e. absurd cc)
+fault_word None text = fault_either (ltb 32 (length text)) _ _ (text_case.Limit NameBytes) (λ case e. refl) (λ case e. absurd cc)
 
-pub name_wrong : (text : List ℕ) → keyword text ≡ None → 32 < length text → wrong (keyword_or (keyword text) text) ≡ Some (told.Limit NameBytes)
+pub name_wrong : (text : List ℕ) → keyword text ≡ None → 32 < length text → wrong (keyword_or (keyword text) text) ≡ Some (text_case.Limit NameBytes)
 name_wrong text none long = let over : ltb 32 (length text) ≡ true = lt-ltb 32 (length text) long in rw none (rw over refl)
 
-pub number_wrong : (digits : List ℕ) → cond (ltb (decimal_value digits) 4294967296) (Some (decimal_value digits)) None ≡ None → wrong (number_or_fault digits) ≡ Some (told.Number 4294967295)
-number_wrong digits none = by (ltb (decimal_value digits) 4294967296) none where
-  by : (b : Bool) → cond b (Some (decimal_value digits)) None ≡ None → wrong (cond b (start.Found (kind.Number (decimal_value digits)) (length digits)) (start.Wrong (told.Number 4294967295))) ≡ Some (told.Number 4294967295)
-  by true e = absurd cc
-  by false e = refl
+too_large : (digits : List ℕ) → 4294967295 < decimal_value digits → wrong (number_or_fault digits) ≡ Some (text_case.Number 4294967295)
+too_large digits above =
+    let off : ltb (decimal_value digits) 4294967296 ≡ false = le-ltb _ _ (omega (arith, above)) in
+    rw off refl
+
+-- a number is too large once its first digits are
+pub first_too_large : (v : ℕ) (text rest : List ℕ) → 0 < length rest → is_ascii_digit (slice_index rest 0) ≡ true
+    → fold (λ n d. 10 * n + (d - 48)) v (take_while is_ascii_digit rest) ≡ decimal_value (take_while is_ascii_digit text) → 4294967295 < v * 10 + (slice_index rest 0 - 48)
+    → wrong (number_or_fault (take_while is_ascii_digit text)) ≡ Some (text_case.Number 4294967295)
+first_too_large v text [] some is e above = absurd (omega (arith, some))
+first_too_large v text (d ∷ ds) some is e above =
+    let next : ℕ = 10 * v + (d - 48) in
+    let at : fold (λ n d. 10 * n + (d - 48)) next (take_while is_ascii_digit ds) ≡ decimal_value (take_while is_ascii_digit text) = ap (λ (run : List ℕ). fold (λ n d. 10 * n + (d - 48)) v run) (sym (run_one is_ascii_digit d ds is)) ∙ e in
+    let more : next ≤ fold (λ n d. 10 * n + (d - 48)) next (take_while is_ascii_digit ds) = grows next (take_while is_ascii_digit ds) in
+    too_large (take_while is_ascii_digit text) (omega (arith, at, more, above))
 
 -- a digit before what is none
 pub one_digit : (text : List ℕ) → 2 ≤ length text → is_ascii_digit (slice_index text 0) ≡ true → is_ascii_digit (slice_index text 1) ≡ false → slice_index text 0 - 48 < 4294967296
@@ -262,22 +261,22 @@ one_digit (d ∷ b ∷ bs) two digit ends small =
     let run : take_while is_ascii_digit (d ∷ b ∷ bs) ≡ d ∷ [] = run_one is_ascii_digit d (b ∷ bs) digit ∙ ap (λ (ds : List ℕ). d ∷ ds) none in
     let value : decimal_value (d ∷ []) ≡ d - 48 = omega arith in
     ap number_or_fault run
-    ∙ ap (λ (n : ℕ). cond (ltb n 4294967296) (start.Found (kind.Number n) 1) (start.Wrong (told.Number 4294967295))) value
-    ∙ ap (λ (t : Bool). cond t (start.Found (kind.Number (d - 48)) 1) (start.Wrong (told.Number 4294967295))) (lt-ltb (d - 48) 4294967296 small)
+    ∙ ap (λ (n : ℕ). cond (ltb n 4294967296) (start.Found (kind.Number n) 1) (start.Wrong (text_case.Number 4294967295))) value
+    ∙ ap (λ (t : Bool). cond t (start.Found (kind.Number (d - 48)) 1) (start.Wrong (text_case.Number 4294967295))) (lt-ltb (d - 48) 4294967296 small)
 
-fault_sign : (p q : Option Sign) → FaultIs (pair_or_single p q) told.Byte
+fault_sign : (p q : Option Sign) → FaultIs (pair_or_single p q) text_case.Byte
 fault_sign (Some w) q = λ case e. absurd cc
 fault_sign None (Some w) = λ case e. absurd cc
 fault_sign None None = λ case e. refl
 
-pub fault_of : (b : ℕ) (bytes : List ℕ) → FaultIs (start_of b bytes) (cond (is_ascii_alphabetic b) (told.Limit NameBytes) (cond (is_ascii_digit b) (told.Number 4294967295) told.Byte))
+pub fault_of : (b : ℕ) (bytes : List ℕ) → FaultIs (start_of b bytes) (cond (is_ascii_alphabetic b) (text_case.Limit NameBytes) (cond (is_ascii_digit b) (text_case.Number 4294967295) text_case.Byte))
 unfolding start_of
 fault_of b bytes =
-    let case : TextCase = cond (is_ascii_alphabetic b) (told.Limit NameBytes) (cond (is_ascii_digit b) (told.Number 4294967295) told.Byte) in
+    let case : TextCase = cond (is_ascii_alphabetic b) (text_case.Limit NameBytes) (cond (is_ascii_digit b) (text_case.Number 4294967295) text_case.Byte) in
     fault_either (is_blank b) _ _ case (λ _ e. absurd cc) (
     fault_either (eqb b 35) _ _ case (λ _ e. absurd cc) (
     fault_if (is_ascii_alphabetic b) _ _ _ _ (fault_word (keyword (take_while is_name_byte bytes)) (take_while is_name_byte bytes)) (
-    fault_if (is_ascii_digit b) _ _ _ _ (fault_either (ltb (decimal_value (take_while is_ascii_digit bytes)) 4294967296) _ _ (told.Number 4294967295) (λ _ e. absurd cc) (λ _ e. refl)) (
+    fault_if (is_ascii_digit b) _ _ _ _ (fault_either (ltb (decimal_value (take_while is_ascii_digit bytes)) 4294967296) _ _ (text_case.Number 4294967295) (λ _ e. absurd cc) (λ _ e. refl)) (
     fault_sign (pair_at bytes) (single_at bytes)))))
 
 -- ---- the rest of a text

@@ -19,7 +19,7 @@ use Rattle.camac_tokens.specs.declared.token.TokenKind.TheVariants as kind
 use Rattle.camac_tokens.specs.Start as start
 use Rattle.camac_tokens.specs.Start.{Start}
 use Rattle.camac_tokens.specs.declared.fault.Limit.TheVariants.{NameBytes}
-use Rattle.camac_tokens.specs.declared.fault.TextCase.TheVariants as told
+use Rattle.camac_tokens.specs.declared.fault.TextCase.TheVariants as text_case
 use Rattle.camac_tokens.specs.declared.fault.TextFault.{TextFault}
 use Rattle.camac_tokens.specs.Fault.{Fault, AnswersList}
 use Rattle.camac_tokens.specs.Words.{keyword, Spelling, spelled_in, pair_signs, single_signs}
@@ -87,12 +87,12 @@ run_piece each text P h = subst P (sym (take_run each text)) h
 word_stands : (k : Option Keyword) (text : List ℕ) → keyword (take_while is_name_byte text) ≡ k → IsWord (take_while is_name_byte text) (drop (length (take_while is_name_byte text)) text) → Stands (keyword_or k (take_while is_name_byte text)) text
 word_stands (Some w) text at is = run_piece is_name_byte text (λ bytes. IsKeyword w bytes (drop (length (take_while is_name_byte text)) text)) (record { word = is; kept = at })
 word_stands None text at is =
-    stands_if (ltb 32 (length (take_while is_name_byte text))) (start.Wrong (told.Limit NameBytes)) (start.Found (kind.Name (take_while is_name_byte text)) (length (take_while is_name_byte text))) text (λ _. tt) (λ off.
+    stands_if (ltb 32 (length (take_while is_name_byte text))) (start.Wrong (text_case.Limit NameBytes)) (start.Found (kind.Name (take_while is_name_byte text)) (length (take_while is_name_byte text))) text (λ _. tt) (λ off.
     run_piece is_name_byte text (λ bytes. IsName (take_while is_name_byte text) bytes (drop (length (take_while is_name_byte text)) text)) (record { word = is; free = at; same = refl; short = short_is _ off }))
 
-number_stands : (text : List ℕ) → IsRun is_ascii_digit is_ascii_digit (take_while is_ascii_digit text) (drop (length (take_while is_ascii_digit text)) text) → Stands (cond (ltb (decimal_value (take_while is_ascii_digit text)) 4294967296) (start.Found (kind.Number (decimal_value (take_while is_ascii_digit text))) (length (take_while is_ascii_digit text))) (start.Wrong (told.Number 4294967295))) text
+number_stands : (text : List ℕ) → IsRun is_ascii_digit is_ascii_digit (take_while is_ascii_digit text) (drop (length (take_while is_ascii_digit text)) text) → Stands (cond (ltb (decimal_value (take_while is_ascii_digit text)) 4294967296) (start.Found (kind.Number (decimal_value (take_while is_ascii_digit text))) (length (take_while is_ascii_digit text))) (start.Wrong (text_case.Number 4294967295))) text
 number_stands text is =
-    stands_if (ltb (decimal_value (take_while is_ascii_digit text)) 4294967296) (start.Found (kind.Number (decimal_value (take_while is_ascii_digit text))) (length (take_while is_ascii_digit text))) (start.Wrong (told.Number 4294967295)) text (λ on.
+    stands_if (ltb (decimal_value (take_while is_ascii_digit text)) 4294967296) (start.Found (kind.Number (decimal_value (take_while is_ascii_digit text))) (length (take_while is_ascii_digit text))) (start.Wrong (text_case.Number 4294967295)) text (λ on.
     run_piece is_ascii_digit text (λ bytes. IsNumber (decimal_value (take_while is_ascii_digit text)) bytes (drop (length (take_while is_ascii_digit text)) text)) (record { digits = is; value = refl; bounded = ltb-true _ _ on })) (λ _. tt)
 
 sign_stands : (p q : Option Sign) (b : ℕ) (bs : List ℕ) → pair_at (b ∷ bs) ≡ p → single_at (b ∷ bs) ≡ q → Stands (pair_or_single p q) (b ∷ bs)

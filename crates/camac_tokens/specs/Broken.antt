@@ -4,7 +4,7 @@ use Rattle.std.specs.Char.{is_ascii_digit, is_ascii_alphabetic}
 use Rattle.camac_tokens.specs.declared.token.TokenKind.{TokenKind}
 use Rattle.camac_tokens.specs.declared.fault.Limit.TheVariants.{NameBytes}
 use Rattle.camac_tokens.specs.declared.fault.TextCase.{TextCase}
-use Rattle.camac_tokens.specs.declared.fault.TextCase.TheVariants as told
+use Rattle.camac_tokens.specs.declared.fault.TextCase.TheVariants as text_case
 use Rattle.camac_tokens.specs.Fault.{Fault}
 use Rattle.camac_tokens.specs.Words.{keyword}
 use Rattle.camac_tokens.specs.Scanning.{decimal_value, spot_at, tokens_of}
@@ -40,9 +40,9 @@ pub record HasOtherByte (text : List ℕ) : Type 0 where
 
 -- what is wrong at the start, by the rules of tokens
 abbrev pub Breaks : TextCase → List ℕ → Type 0
-Breaks told.Byte text = HasOtherByte text
-Breaks (told.Number most) text = (most ≡ 4294967295) × HasLargeNumber text
-Breaks (told.Limit NameBytes) text = HasLongName text
+Breaks text_case.Byte text = HasOtherByte text
+Breaks (text_case.Number most) text = (most ≡ 4294967295) × HasLargeNumber text
+Breaks (text_case.Limit NameBytes) text = HasLongName text
 Breaks _ text = ⊥
 
 -- The text is pieces that stand and a rest. No piece stands at the start of the rest, as the case says, the line is 1 plus the line

@@ -77,6 +77,9 @@ pub record IsPastGaps (line : ℕ) (text : List ℕ) (after : ℕ) (rest : List 
 abbrev pub eight_spaces : List ℕ
 eight_spaces = 32 ∷ 32 ∷ 32 ∷ 32 ∷ 32 ∷ 32 ∷ 32 ∷ 32 ∷ []
 
+abbrev pub two_spaces : List ℕ
+two_spaces = 32 ∷ 32 ∷ []
+
 -- the token at the start, of n bytes, is put in its place, with the line of its bytes and how many are left; or none, where something is wrong there
 abbrev pub IsPut : ℕ → Option Token → ℕ → ℕ → Start → Type 0
 IsPut n (Some t) line left f = (f ≡ start.Found t.kind n) × (t.spot ≡ record { line = line; left = left })

@@ -10,7 +10,7 @@ use Rattle.camac_tokens.specs.Start.{Start}
 use Rattle.camac_tokens.specs.Start as start
 use Rattle.camac_tokens.specs.declared.fault.Limit.TheVariants.{NameBytes}
 use Rattle.camac_tokens.specs.declared.fault.TextCase.{TextCase}
-use Rattle.camac_tokens.specs.declared.fault.TextCase.TheVariants as told
+use Rattle.camac_tokens.specs.declared.fault.TextCase.TheVariants as text_case
 use Rattle.camac_tokens.specs.Fault.{Fault}
 use Rattle.camac_tokens.specs.Words.{spelled_in, keyword, pair_signs, single_signs}
 
@@ -31,7 +31,7 @@ decimal_value digits = fold (λ n d. 10 * n + (d - 48)) 0 digits
 
 -- a NAME, unless it is longer than 32 bytes
 abbrev pub name_or_fault : List ℕ → Start
-name_or_fault text = if nat_lt 32 (length text) then start.Wrong (told.Limit NameBytes) else start.Found (kind.Name text) (length text)
+name_or_fault text = if nat_lt 32 (length text) then start.Wrong (text_case.Limit NameBytes) else start.Found (kind.Name text) (length text)
 
 -- a keyword is no NAME
 abbrev pub keyword_or : Option Keyword → List ℕ → Start
@@ -42,7 +42,7 @@ keyword_or None text = name_or_fault text
 abbrev pub number_or_fault : List ℕ → Start
 number_or_fault digits =
     if nat_lt (decimal_value digits) 4294967296 then start.Found (kind.Number (decimal_value digits)) (length digits)
-    else start.Wrong (told.Number 4294967295)
+    else start.Wrong (text_case.Number 4294967295)
 
 -- the sign that bytes begin with, of two bytes or of one
 abbrev pub pair_at : List ℕ → Option Sign
@@ -56,7 +56,7 @@ single_at _ = None
 abbrev pub pair_or_single : Option Sign → Option Sign → Start
 pair_or_single (Some s) single = start.Found (kind.Sign s) 2
 pair_or_single None (Some s) = start.Found (kind.Sign s) 1
-pair_or_single None None = start.Wrong told.Byte
+pair_or_single None None = start.Wrong text_case.Byte
 
 -- what stands at the start of bytes that begin with b: the longest
 unfoldable pub start_of : ℕ → List ℕ → Start

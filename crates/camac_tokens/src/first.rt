@@ -8,7 +8,7 @@ ghost use Rattle.camac_tokens.specs.Scanning.{is_name_byte, keyword_or, number_o
 ghost use Rattle.camac_tokens.specs.Left.{BeginsNoGap, IsPut};
 
 use crate::fault::{Limit, TextCase};
-use crate::scanner::{digits_text, name_text, number, pair_at, single_at};
+use crate::scanner::{name_text, pair_at, single_at};
 use crate::token::{Token, TokenKind};
 use crate::words::keyword;
 use camac_lang::{Name, Spot, limits};
@@ -103,22 +103,24 @@ fn put_number(next: &mut Option<Token>, text: &[u8], line: u32) -> usize
 fn put_long_number(next: &mut Option<Token>, text: &[u8], line: u32) -> usize
     ensures { IsPut result next.new line (length text.now) (number_or_fault (take_while is_ascii_digit text.now)) }
 {
-    let spot = Spot {
-        line,
-        left: text.len(),
-    };
-    let digits = digits_text(text);
-    match number(digits) {
-        Some(number) => {
-            let kind = TokenKind::Number(number);
-            *next = Some(Token { kind, spot });
-            digits.len()
+    let mut value: u64 = 0;
+    let mut rest = text;
+    while let [byte, after @ ..] = rest {
+        if !byte.is_ascii_digit() {
+            break;
         }
-        None => {
+        value = value * 10 + u64::from(*byte - b'0');
+        if value > 4_294_967_295 {
             *next = None;
-            0
+            return 0;
         }
+        rest = after;
     }
+    let kind = TokenKind::Number(value as u32);
+    let left = text.len();
+    let spot = Spot { line, left };
+    *next = Some(Token { kind, spot });
+    left - rest.len()
 }
 
 #[inline(always)]

@@ -3,7 +3,7 @@
 ghost use Rattle.std.specs.Prelude.{◌≡◌, ◌+◌, ◌≤◌, [], true, List, take, drop, length, slice_get, option_copied, IfNone, Ok};
 ghost use Rattle.camac_tokens.specs.Scanning.{last_line, line_after, tokens_of};
 ghost use Rattle.camac_tokens.specs.declared.token.Token.{Token};
-ghost use Rattle.camac_tokens.specs.Left.{Ahead, ahead_from, ahead_of, end_by, with_next, IsLeft, EndIs, IsPastGaps, eight_spaces};
+ghost use Rattle.camac_tokens.specs.Left.{Ahead, ahead_from, ahead_of, end_by, with_next, IsLeft, EndIs, IsPastGaps, eight_spaces, two_spaces};
 
 use crate::bytes::first_eight;
 use crate::fault::TextFault;
@@ -145,11 +145,17 @@ fn past_long_gaps(text: &[u8], line: usize) -> (&[u8], usize)
     let mut at = line;
     while !rest.is_empty() {
         let byte = rest[0];
+        if byte > b'#' {
+            return (rest, at);
+        }
         if byte == b'#' {
             let (_, after) = rest.split_at(comment_len(rest));
             rest = after;
         } else if begins_with_eight_spaces(rest) {
             let (_, after) = rest.split_at(8);
+            rest = after;
+        } else if begins_with_two_spaces(rest) {
+            let (_, after) = rest.split_at(2);
             rest = after;
         } else if is_blank(byte) {
             let (_, after) = rest.split_at(1);
@@ -170,6 +176,16 @@ fn begins_with_eight_spaces(text: &[u8]) -> bool
         return false;
     }
     first_eight(text) == 0x2020_2020_2020_2020
+}
+
+// Before most statements stands an even number of spaces.
+fn begins_with_two_spaces(text: &[u8]) -> bool
+    ensures { result ≡ true → take 2 text.now ≡ two_spaces }
+{
+    match text {
+        [first, second, ..] => *first == b' ' && *second == b' ',
+        _ => false,
+    }
 }
 
 // The line of what follows a byte.

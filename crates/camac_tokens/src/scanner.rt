@@ -1,10 +1,8 @@
 // Cuts a text into tokens.
 
-ghost use Rattle.std.specs.Prelude.{◌≡◌, ◌<◌, ◌&&◌, List, length, take_while, nat_lt, Some, None, if◌then◌else◌, slice_index, ◌++◌, IfOk, OnOk, IfErr};
-ghost use Rattle.std.specs.Char.{is_ascii_digit};
+ghost use Rattle.std.specs.Prelude.{◌≡◌, ◌<◌, ◌&&◌, List, length, take_while, Some, None, if◌then◌else◌, IfOk};
 ghost use Rattle.camac_tokens.specs.declared.token.Token.{Token};
-ghost use Rattle.camac_tokens.specs.Words.{keyword};
-ghost use Rattle.camac_tokens.specs.Scanning.{is_name_byte, is_blank, is_no_line_feed, decimal_value, keyword_or, number_or_fault, pair_at, single_at, pair_or_single, start_of, wrong, line_number, tokens_of};
+ghost use Rattle.camac_tokens.specs.Scanning.{is_name_byte, is_blank, is_no_line_feed, pair_at, single_at, line_number, tokens_of};
 ghost use Rattle.camac_tokens.specs.Cut.{IsCut, HasTokens};
 ghost use Rattle.camac_tokens.specs.Fault.{AnswersList};
 
@@ -112,12 +110,6 @@ fn short_name_len(text: &[u8]) -> usize
     text.iter().take_while(|b| is_name_byte(**b)).count()
 }
 
-fn digits_len(text: &[u8]) -> usize
-    ensures { result ≡ length (take_while is_ascii_digit text.now) }
-{
-    text.iter().take_while(|b| b.is_ascii_digit()).count()
-}
-
 // Eight bytes are looked at in a turn, since comments are long.
 pub fn comment_len(text: &[u8]) -> usize
     ensures { result ≡ length (take_while is_no_line_feed text.now) }
@@ -171,27 +163,6 @@ pub fn name_text(text: &[u8]) -> &[u8]
     ensures { result.now ≡ take_while is_name_byte text.now }
 {
     &text[..name_len(text)]
-}
-
-#[tactic(auto, using(crate::proofs::Scans::take_run))]
-pub fn digits_text(text: &[u8]) -> &[u8]
-    ensures { result.now ≡ take_while is_ascii_digit text.now }
-{
-    &text[..digits_len(text)]
-}
-
-/// The number of decimal digits, where it is below 2 to the power of 32.
-pub fn number(digits: &[u8]) -> Option<u32>
-    ensures { result ≡ (if nat_lt (decimal_value digits.now) 4294967296 then Some (decimal_value digits.now) else None) }
-{
-    let mut value: u64 = 0;
-    for d in digits {
-        value = value * 10 + u64::from(d.saturating_sub(b'0'));
-        if value > 4_294_967_295 {
-            return None;
-        }
-    }
-    Some(value as u32)
 }
 
 pub fn pair_at(text: &[u8]) -> Option<Sign>

@@ -12,41 +12,36 @@ use Rattle.camac_play.specs.declared.telling.Telling.TheVariants.{Listing, Reque
 use Rattle.camac_response_times.specs.Setting.{ReadsSettings}
 use Rattle.camac_response_times.specs.declared.setting.Settings.{Settings}
 use Rattle.camac_engines.specs.Engine.{Answers}
-use Rattle.camac_engines.specs.Found.{HasJudged}
+use Rattle.camac_engines.specs.Found.{HasJudged, IsTooLong}
 use Rattle.camac_engines.specs.Response.{RespondsOn}
 use Rattle.camac_engines.specs.declared.fault.ToolFault.{ToolFault}
 use Rattle.camac_engines.specs.declared.fault.ToolFault.TheVariants.{Read, Write, Memory, TooLong}
 use Rattle.camac_engines.specs.declared.outcome.Outcome.{Outcome}
 use Rattle.camac_engines.specs.declared.judging.Judged.{Judged}
 use Rattle.camac_engines.specs.declared.response.Responded.{Responded}
-use Rattle.camac_tool.proofs.Runs.{ends_before}
-use Rattle.camac_tool.specs.Apart.{IsApartFrom, Words}
-use Rattle.camac_tool.specs.Devices.{HasBeginning, RunsOnDevices}
-use Rattle.camac_tool.specs.Gathered.{device_of, given_to, held_in}
-use Rattle.camac_tool.specs.Headline.{JudgedKeeps}
-use Rattle.camac_tool.specs.Input.{IsJudgedIn}
-use Rattle.camac_tool.specs.Jobs.{DoesRun, Drives, HandsOn, IsGot, IsSaved, IsSettled, OrWriteFault, Responds, RunTells, RunsTold, Tells, gathers}
-use Rattle.camac_tool.specs.Run.{Runs, RunsFound, RunsJudged, StaysQuiet}
-use Rattle.camac_tool.specs.Saved.{IsKept}
+use Rattle.camac_tool_run.proofs.Runs.{ends_before}
+use Rattle.camac_tool_host.specs.Apart.{IsApartFrom, Words}
+use Rattle.camac_tool.specs.Devices.{HasBeginning, IsKept, RunsOnDevices}
+use Rattle.camac_tool_host.specs.Streams.{device_of, given_to, held_in}
+use Rattle.camac_tool_run.specs.Headline.{JudgedKeeps}
+use Rattle.camac_tool.specs.Input.{HaveLong, IsJudgedIn}
+use Rattle.camac_tool.specs.Jobs.{DoesRun, Drives, HandsOn, IsGot, IsSaved, IsSettled, OrWriteFault, Responds, RunTells, RunsTold, TellsText, gathers}
+use Rattle.camac_tool_run.specs.Run.{Runs, RunsFound, RunsJudged, StaysQuiet}
 use Rattle.camac_tool.specs.Status.{EndsStopped}
-use Rattle.camac_tool.specs.World.{World}
-use Rattle.camac_tool.specs.declared.gathered.Gathered.{Gathered}
-use Rattle.camac_tool.specs.declared.host.FileId.{FileId}
+use Rattle.camac_tool_run.specs.World.{World}
+use Rattle.camac_tool_host.specs.declared.gathered.Gathered.{Gathered}
+use Rattle.camac_tool_host.specs.declared.host.FileId.{FileId}
 use Rattle.camac_tool.specs.declared.program.Done.{Done}
 use Rattle.camac_tool.specs.declared.program.Done.TheVariants.{Answered}
 
--- an input could not be opened, or memory was out: nothing is told
-pub unread : (Says : Outcome → List ℕ → Type 0) (o p : Option (List ℕ)) (r : Result Done ToolFault) → r ≡ Err Read → Keeps o p → Tells Says o p r
-unread Says o p r is kept = rw is kept
-
 -- what an engine answers, of what was read: it is that of the words
-module _ {T : Type 0} (WasRead Is : T → Type 0) (Says : T → Outcome → List ℕ → Type 0) (IsTooLong : Type 0) (o p : Option (List ℕ)) (is : (found : T) → WasRead found → Is found) where
+module _ {T : Type 0} (WasRead Is : T → Type 0) (Says : T → Outcome → List ℕ → Type 0) (IsTooLong IsLong : Type 0) (o p : Option (List ℕ)) (is : (found : T) → WasRead found → Is found) (long : IsTooLong → IsLong) where
   abbrev Told : Outcome → List ℕ → Type 0
   Told told text = (found : T) × Is found × Says found told text
 
-  pub stopped : (e : ToolFault) (r : Result Done ToolFault) → r ≡ Err e → Answers WasRead Says IsTooLong o p (Err e) → Tells Told o p r
+  pub stopped : (e : ToolFault) (r : Result Done ToolFault) → r ≡ Err e → Answers WasRead Says IsTooLong o p (Err e) → TellsText IsLong Told o p r
   stopped Write r same h = rw same (h.2.0, h.2.1, (h.0, is h.0 h.1, h.2.2), h.2.3)
-  stopped TooLong r same h = rw same h.1
+  stopped TooLong r same h = rw same (long h.0, h.1)
   stopped Read r same h = rw same h
   stopped Memory r same h = rw same h
 
@@ -59,11 +54,11 @@ module _ (Judges : Judged → Type 0) (IsLong : Type 0) (s : Settings) (o p : Op
   RespondsBy (Err _) = Keeps o p
 
   pub response_stopped : (e : ToolFault) (r : Result Done ToolFault) → r ≡ Err e → RespondsBy (Err e) → (bytes_of : Text → Option (List ℕ)) (plan script : Text) (every within : List Text)
-      → ReadsSettings every within (Ok s) → ((j : Judged) → Judges j → IsJudgedIn bytes_of plan script j) → Responds bytes_of plan script every within o p r
-  response_stopped Write r is h bytes_of plan script every within read finds = rw is (h.2.0, h.2.1, (s, read, (h.0, finds h.0 h.1, h.2.2)), h.2.3)
-  response_stopped TooLong r is h bytes_of plan script every within read finds = rw is h.1
-  response_stopped Read r is h bytes_of plan script every within read finds = rw is h
-  response_stopped Memory r is h bytes_of plan script every within read finds = rw is h
+      → ReadsSettings every within (Ok s) → ((j : Judged) → Judges j → IsJudgedIn bytes_of plan script j) → (IsLong → HaveLong bytes_of plan script) → Responds bytes_of plan script every within o p r
+  response_stopped Write r is h bytes_of plan script every within read finds long = rw is (h.2.0, h.2.1, (s, read, (h.0, finds h.0 h.1, h.2.2)), h.2.3)
+  response_stopped TooLong r is h bytes_of plan script every within read finds long = rw is (long h.0, h.1)
+  response_stopped Read r is h bytes_of plan script every within read finds long = rw is h
+  response_stopped Memory r is h bytes_of plan script every within read finds long = rw is h
 
 -- a device without what is held for it
 pub nothing_held : (o : Option (List ℕ)) → append_known o [] ≡ o
@@ -78,9 +73,9 @@ is_got given got (Ok done) kept = kept
 is_got given got (Err fault) kept = beginning given got kept
 
 -- a writer that gathers, before anything is told
-pub started : {W : Type 0} (contents : W → Option (List ℕ)) (g g' : Gathered W) (w : W) → g' ≡ g → device_of g ≡ w → held_in g ≡ [] → given_to contents g' ≡ contents w
-started contents g g' w same inner empty =
-    ap (given_to contents) same ∙ ap (append_known (contents (device_of g))) empty ∙ nothing_held (contents (device_of g)) ∙ ap contents inner
+pub started : {W : Type 0} (contents : W → Option (List ℕ)) (g : Gathered W) (w : W) → device_of g ≡ w → held_in g ≡ [] → given_to contents g ≡ contents w
+started contents g w inner empty =
+    ap (append_known (contents (device_of g))) empty ∙ nothing_held (contents (device_of g)) ∙ ap contents inner
 
 -- what was told and is held still is lost
 module _ (Replied : (o given : Option (List ℕ)) → Result Done ToolFault → Type 0) (o o' given got : Option (List ℕ)) (held : List ℕ) (same : o' ≡ o) (kept : Keeps given (append_known got held)) where
@@ -94,9 +89,13 @@ module _ (Replied : (o given : Option (List ℕ)) → Result Done ToolFault → 
   faulted fault replied = (given, inl (subst (λ (x : Option (List ℕ)). Replied x given (Err fault)) same replied), (held, kept))
 
 -- before a run nothing is told
-pub not_begun : (bytes_of : Text → Option (List ℕ)) (finds : Text → Option FileId → Type 0) (begun : Option (List ℕ)) (w : Words) (saves : Option (List ℕ) → Bool) (o : Option (List ℕ)) (fault : ToolFault)
-    → DoesRun bytes_of finds begun w saves o o (Err fault)
-not_begun bytes_of finds begun w saves o fault = (begun, (o, inl (inl (Keeps-refl o)), beginning o o (Keeps-refl o)), tt)
+module _ (bytes_of : Text → Option (List ℕ)) (finds : Text → Option FileId → Type 0) (begun : Option (List ℕ)) (w : Words) (o : Option (List ℕ)) where
+  pub none_run : (t : Telling) (fault : ToolFault) → ((fault ≡ Read) ⊎ (fault ≡ Write)) → RunsTold bytes_of finds begun w t begun o o (Err fault)
+  none_run t fault (inl is) = rw is (inl (Keeps-refl o))
+  none_run t fault (inr is) = rw is (inl (Keeps-refl o))
+
+  pub not_begun : (saves : Option (List ℕ) → Bool) (fault : ToolFault) → ((fault ≡ Read) ⊎ (fault ≡ Write)) → DoesRun bytes_of finds begun w saves o o (Err fault)
+  not_begun saves fault is = (begun, (o, inl (none_run Listing fault is), beginning o o (Keeps-refl o)), tt)
 
 quiet : (o p : Option (List ℕ)) → Appends o p [] → Keeps o p
 quiet None p h = tt
@@ -115,7 +114,8 @@ settles Ends (Err fault) done is ends = rw is (inl ends)
 -- a run in a world, and one on devices, of the words' inputs
 module _ (bytes_of : Text → Option (List ℕ)) (finds : Text → Option FileId → Type 0) (begun : Option (List ℕ)) (words : Words) (saves : Option (List ℕ) → Bool) (apart : IsApartFrom finds words)
     {I : Type 0} (w : World I) (empty : w.outputs.events ≡ begun) (answered : Keeps (bytes_of words.answers) w.answers)
-    (judged : (w' : World I) (j : Judged) → HasJudged w.left w.plan w'.plan w.script w'.script j → IsJudgedIn bytes_of words.plan words.script j) where
+    (judged : (w' : World I) (j : Judged) → HasJudged w.left w.plan w'.plan w.script w'.script j → IsJudgedIn bytes_of words.plan words.script j)
+    (long : (w' : World I) → IsTooLong w.left w.plan w'.plan w.script w'.script → HaveLong bytes_of words.plan words.script) where
   saved_as : (f g : Option (List ℕ)) (done : Result Done ToolFault) → Keeps f g → IfOk done (λ _. IsKept begun saves g) → IsSaved bytes_of finds begun saves f done
   saved_as f g (Ok done) kept saved = (g, kept, saved)
   saved_as f g (Err fault) kept saved = tt
@@ -151,7 +151,7 @@ module _ (bytes_of : Text → Option (List ℕ)) (finds : Text → Option FileId
     )
     run_told w' (Err Write) h = inr (found_told w' (Err Write) h.runs)
     run_told w' (Err Memory) h = inl (quiet _ _ h.runs.1.listing)
-    run_told w' (Err TooLong) h = inl (quiet _ _ h.runs.1.1.listing)
+    run_told w' (Err TooLong) h = (long w' h.runs.0, quiet _ _ h.runs.1.1.listing)
     run_told w' (Err Read) h = by h.runs
       where
         by : (StaysQuiet w w' ⊎ RunsFound w w' t (Err Read)) → RunIsTold w'.outputs.events w.outputs.listing w'.outputs.listing (Err Read)

@@ -13,7 +13,9 @@ use Rattle.camac_response_times.specs.declared.setting.Misuse.{Misuse}
 use Rattle.camac_tool.proofs.Ended.{beginning, nothing_held}
 use Rattle.camac_tool.specs.Causes.{held_fault}
 use Rattle.camac_tool.specs.Devices.{HasBeginning}
-use Rattle.camac_tool.specs.Jobs.{HandsOn, Replies, Tells, TellsUnless}
+use Rattle.camac_tool_host.specs.Apart.{is_sample}
+use Rattle.camac_tool.specs.Input.{HaveLong, IsLongPlan}
+use Rattle.camac_tool.specs.Jobs.{HandsOn, Replies, TellsText, TellsUnless}
 use Rattle.camac_tool.specs.declared.program.Done.{Done}
 use Rattle.camac_tool.specs.declared.program.Done.TheVariants.{Answered, Misused, NoCode}
 use Rattle.camac_tool.specs.declared.program.Question.{Question}
@@ -27,40 +29,43 @@ no_write Memory is = let no : false ≡ true = is in cc
 no_write TooLong is = let no : false ≡ true = is in cc
 
 -- nothing has come of it
-pub none_told : (Says : Outcome → List ℕ → Type 0) (o : Option (List ℕ)) (e : ToolFault) → Tells Says o o (Err (held_fault e))
-none_told Says o Write = Keeps-refl o
-none_told Says o Read = Keeps-refl o
-none_told Says o Memory = Keeps-refl o
-none_told Says o TooLong = Keeps-refl o
+pub none_told : (L : Type 0) (Says : Outcome → List ℕ → Type 0) (o : Option (List ℕ)) (e : ToolFault) → (e ≡ TooLong → L) → TellsText L Says o o (Err (held_fault e))
+none_told L Says o Write long = Keeps-refl o
+none_told L Says o Read long = Keeps-refl o
+none_told L Says o Memory long = Keeps-refl o
+none_told L Says o TooLong long = (long refl, Keeps-refl o)
 
-none_replied : (bytes_of : Text → Option (List ℕ)) (q : Question) (o : Option (List ℕ)) (e : ToolFault) → Replies bytes_of q o o (Err (held_fault e))
-none_replied bytes_of (question.Plan a plan) o e = none_told _ o e
-none_replied bytes_of (question.Script a plan script) o e = none_told _ o e
-none_replied bytes_of (question.Known line column turns plan script) o e = none_told _ o e
-none_replied bytes_of (question.Response plan script every within) o e = none_told _ o e
+held_told : (L : Type 0) (Says : Outcome → List ℕ → Type 0) (o u v : Option (List ℕ)) (e : ToolFault) → TellsText L Says u v (Err e) → TellsText L Says o o (Err (held_fault e))
+held_told L Says o u v e told = none_told L Says o e (λ is. (subst (λ (x : ToolFault). TellsText L Says u v (Err x)) is told).0)
+
+none_replied : (bytes_of : Text → Option (List ℕ)) (q : Question) (o u v : Option (List ℕ)) (e : ToolFault) → Replies bytes_of q u v (Err e) → Replies bytes_of q o o (Err (held_fault e))
+none_replied bytes_of (question.Plan a plan) o u v e told = held_told _ _ o u v e told
+none_replied bytes_of (question.Script a plan script) o u v e told = held_told _ _ o u v e told
+none_replied bytes_of (question.Known line column turns plan script) o u v e told = held_told _ _ o u v e told
+none_replied bytes_of (question.Response plan script every within) o u v e told = held_told _ _ o u v e told
 
 -- A text xs is held, and an output has o.
 appended : (o : Option (List ℕ)) (xs text : List ℕ) → xs ≡ text → Appends o (append_known o xs) text
 appended None xs text is = tt
 appended (Some ys) xs text is = ap (λ (l : List ℕ). ys ++ l) is
 
-tells_on : (Says : Outcome → List ℕ → Type 0) (o : Option (List ℕ)) (xs : List ℕ) (done : Done) → Tells Says (Some []) (Some xs) (Ok done) → Tells Says o (append_known o xs) (Ok done)
-tells_on Says o xs (Answered outcome) told = (told.0, told.1, appended o xs told.0 told.2)
-tells_on Says o xs (Misused misuse) told = absurd told
-tells_on Says o xs (NoCode word) told = absurd told
+tells_on : (L : Type 0) (Says : Outcome → List ℕ → Type 0) (o : Option (List ℕ)) (xs : List ℕ) (done : Done) → TellsText L Says (Some []) (Some xs) (Ok done) → TellsText L Says o (append_known o xs) (Ok done)
+tells_on L Says o xs (Answered outcome) told = (told.0, told.1, appended o xs told.0 told.2)
+tells_on L Says o xs (Misused misuse) told = absurd told
+tells_on L Says o xs (NoCode word) told = absurd told
 
-unless_on : (Wrong : Misuse → Type 0) (Says : Outcome → List ℕ → Type 0) (o : Option (List ℕ)) (xs : List ℕ) (done : Done) → TellsUnless Wrong Says (Some []) (Some xs) (Ok done)
-    → TellsUnless Wrong Says o (append_known o xs) (Ok done)
-unless_on Wrong Says o xs (Answered outcome) told = tells_on Says o xs (Answered outcome) told
-unless_on Wrong Says o xs (Misused misuse) (wrong, none) = (wrong, subst (Keeps o) (sym (ap (append_known o) none ∙ nothing_held o)) (Keeps-refl o))
-unless_on Wrong Says o xs (NoCode word) told = absurd told
+unless_on : (Wrong : Misuse → Type 0) (L : Type 0) (Says : Outcome → List ℕ → Type 0) (o : Option (List ℕ)) (xs : List ℕ) (done : Done) → TellsUnless Wrong L Says (Some []) (Some xs) (Ok done)
+    → TellsUnless Wrong L Says o (append_known o xs) (Ok done)
+unless_on Wrong L Says o xs (Answered outcome) told = tells_on L Says o xs (Answered outcome) told
+unless_on Wrong L Says o xs (Misused misuse) (wrong, none) = (wrong, subst (Keeps o) (sym (ap (append_known o) none ∙ nothing_held o)) (Keeps-refl o))
+unless_on Wrong L Says o xs (NoCode word) told = absurd told
 
 replies_on : (bytes_of : Text → Option (List ℕ)) (q : Question) (o : Option (List ℕ)) (xs : List ℕ) (done : Done) → Replies bytes_of q (Some []) (Some xs) (Ok done)
     → Replies bytes_of q o (append_known o xs) (Ok done)
-replies_on bytes_of (question.Plan a plan) o xs done told = tells_on _ o xs done told
-replies_on bytes_of (question.Script a plan script) o xs done told = tells_on _ o xs done told
-replies_on bytes_of (question.Known line column turns plan script) o xs done told = tells_on _ o xs done told
-replies_on bytes_of (question.Response plan script every within) o xs done told = unless_on _ _ o xs done told
+replies_on bytes_of (question.Plan a plan) o xs done told = tells_on (IsLongPlan (is_sample plan.now) (bytes_of plan.now)) _ o xs done told
+replies_on bytes_of (question.Script a plan script) o xs done told = tells_on (HaveLong bytes_of plan.now script.now) _ o xs done told
+replies_on bytes_of (question.Known line column turns plan script) o xs done told = tells_on (HaveLong bytes_of plan.now script.now) _ o xs done told
+replies_on bytes_of (question.Response plan script every within) o xs done told = unless_on _ (HaveLong bytes_of plan.now script.now) _ o xs done told
 
 -- a part of it went out, or all
 begun : (o p : Option (List ℕ)) (xs : List ℕ) → AppendsPrefix o p xs → HasBeginning (append_known o xs) p
@@ -75,8 +80,8 @@ all_out (Some ys) None xs out = absurd out
 all_out (Some ys) (Some zs) xs out = out
 
 module _ (bytes_of : Text → Option (List ℕ)) (q : Question) (o : Option (List ℕ)) where
-  pub none_handed : (e : ToolFault) → HandsOn (Replies bytes_of q) o o (Err (held_fault e))
-  none_handed e = (o, inl (none_replied bytes_of q o e), beginning o o (Keeps-refl o))
+  pub none_handed : (u v : Option (List ℕ)) (e : ToolFault) → Replies bytes_of q u v (Err e) → HandsOn (Replies bytes_of q) o o (Err (held_fault e))
+  none_handed u v e told = (o, inl (none_replied bytes_of q o u v e told), beginning o o (Keeps-refl o))
 
   -- it was held as xs, and then written, and what the writer holds back was handed on
   module _ (p p' : Option (List ℕ)) (xs : List ℕ) (done : Done) (told : Replies bytes_of q (Some []) (Some xs) (Ok done)) (kept : Keeps p p') where
@@ -103,5 +108,5 @@ written_as Says outcome old new xs none same told =
 
 -- of a rule
 module _ (Says : Outcome → List ℕ → Type 0) (o p : Option (List ℕ)) (xs : List ℕ) (outcome : Outcome) (told : IsWritten Says (Some []) (Some xs) (Ok outcome)) where
-  pub some_told : AppendsPrefix o p xs → Tells Says o p (Err Write)
+  pub some_told : AppendsPrefix o p xs → TellsText ⊥ Says o p (Err Write)
   some_told out = (outcome, told.0, told.1, subst (AppendsPrefix o p) told.2 out)

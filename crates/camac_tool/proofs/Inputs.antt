@@ -1,20 +1,19 @@
 -- What an engine has read is what the words' inputs have.
-use Rattle.std.proofs.Common.{◌≡◌, ◌⊎◌, ◌↔◌, ◌++◌, ℕ, Bool, true, false, List, Option, None, Some, refl, sym, ap, subst, ◌∙◌, inl, inr, append-nil}
+use Rattle.std.proofs.Common.{◌≡◌, ◌⊎◌, ◌↔◌, ◌++◌, ◌+◌, ◌<◌, ℕ, Bool, true, false, List, Option, None, Some, refl, sym, ap, subst, ◌∙◌, inl, inr, length, append-nil, arith}
+use Rattle.std.proofs.lemmas.List.{length-append}
 use Rattle.std.specs.Prelude.{Result, Ok, Err, IfOk, IsOk, IsOkAnd, OnErr}
 use Rattle.std.specs.Io.KnownBytes.{Keeps}
 use Rattle.clap.specs.Words.{Text}
-use Rattle.camac_engines.specs.Found.{Found, HasJudged, HasRead}
-use Rattle.camac_engines.specs.Plan.{PlanFound, Says}
-use Rattle.camac_engines.specs.Reading.{WasRead}
+use Rattle.camac_engines.specs.Found.{Found, HasJudged, HasRead, IsTooLong}
+use Rattle.camac_engines.specs.Plan.{IsPlanTooLong, PlanFound, Says}
+use Rattle.camac_engines.specs.Reading.{ConsumesSome, WasRead}
 use Rattle.camac_engines.specs.declared.judging.Judged.{Judged}
 use Rattle.camac_engines.specs.declared.plan.PlanSource.{PlanSource}
 use Rattle.camac_engines.specs.declared.plan.PlanSource.TheVariants as source
 use Rattle.camac_engines.specs.declared.reading.TheConstants.{TEXT_LIMIT}
-use Rattle.camac_tool.specs.Apart.{Differs, IsApart, IsApartFrom, IsNamed, IsOther, IsTaken, IsTakenBy, Meets, Opens, OpensPlan, PlanDiffers, PlanMeets, Words, is_same, name_of}
-use Rattle.camac_tool.specs.Input.{IsFoundIn, IsInputOf, IsJudgedIn, IsPlanIn, IsSourceOf, IsTextOf, is_sample}
-use Rattle.camac_tool.specs.declared.host.FileId.{FileId}
-use Rattle.camac_word.specs.Watched.{inner_of}
-use Rattle.camac_word.specs.declared.watched.Watched.{Watched}
+use Rattle.camac_tool_host.specs.Apart.{Differs, IsApart, IsApartFrom, IsNamed, IsOther, IsTaken, IsTakenBy, Meets, Opens, OpensPlan, PlanDiffers, PlanMeets, Words, is_same, is_sample, name_of}
+use Rattle.camac_tool.specs.Input.{HaveLong, IsFoundIn, IsInputOf, IsJudgedIn, IsLong, IsLongPlan, IsPlanIn, IsSourceOf, IsTextOf}
+use Rattle.camac_tool_host.specs.declared.host.FileId.{FileId}
 
 -- what was left was all that is known, and nothing is left now
 pub read_text : (limit : ℕ) (known old new : Option (List ℕ)) (text : List ℕ) → Keeps known old → WasRead limit old new text → IsTextOf limit known text
@@ -24,13 +23,23 @@ read_text limit (Some xs) (Some ys) None text kept read = absurd read.1
 read_text limit (Some xs) (Some ys) (Some zs) text kept read =
     (read.0, sym (append-nil text) ∙ ap (λ (l : List ℕ). text ++ l) (sym read.2) ∙ sym read.1 ∙ kept)
 
--- of the input that was opened
-pub kept_in : {I : Type 0} (known : Option (List ℕ)) (left : I → Option (List ℕ)) (w : Watched I) (opened : I) → inner_of w ≡ opened → Keeps known (left opened) → Keeps known (left (inner_of w))
-kept_in known left w opened is kept = subst (λ x. Keeps known (left x)) (sym is) kept
+-- an input that gave more than the limit has more
+pub read_long : (limit : ℕ) (known old new : Option (List ℕ)) → Keeps known old → ConsumesSome old new (limit + 1) → IsLong limit known
+read_long limit None old new kept c = (c.0, omega (arith, c.1), tt)
+read_long limit (Some xs) None new kept c = absurd kept
+read_long limit (Some xs) (Some ys) None kept c = absurd c.2
+read_long limit (Some xs) (Some ys) (Some zs) kept c =
+    (ys, subst (λ (l : List ℕ). limit < length l) (sym c.2) (subst (λ (n : ℕ). limit < n) (sym (length-append c.0 zs)) (omega (arith, c.1))), kept)
 
-pub read_in : {I : Type 0} (limit : ℕ) (known : Option (List ℕ)) (left : I → Option (List ℕ)) (w : Watched I) (opened : I) (new : Option (List ℕ)) (text : List ℕ) → inner_of w ≡ opened → Keeps known (left opened)
-    → WasRead limit (left (inner_of w)) new text → IsTextOf limit known text
-read_in limit known left w opened new text is kept read = read_text limit known (left (inner_of w)) new text (kept_in known left w opened is kept) read
+pub plan_long : {I : Type 0} (left : I → Option (List ℕ)) (known : Option (List ℕ)) (b : Bool) (input : Option I) (old new : PlanSource I) → IsInputOf left known b input → IsSourceOf input old → IsPlanTooLong left old new
+    → IsLongPlan b known
+plan_long left known true None source.Sample new i s h = absurd h
+plan_long left known true None (source.Text w) new i s h = absurd s
+plan_long left known true (Some x) old new i s h = absurd i
+plan_long left known false None old new i s h = absurd i
+plan_long left known false (Some x) source.Sample new i s h = absurd s
+plan_long left known false (Some x) (source.Text w) source.Sample i s h = absurd h
+plan_long left known false (Some x) (source.Text w) (source.Text v) i s h = read_long TEXT_LIMIT known (left w) (left v) (subst (λ y. Keeps known (left y)) (sym s) i) h
 
 pub plan_read : {I : Type 0} (left : I → Option (List ℕ)) (known : Option (List ℕ)) (b : Bool) (input : Option I) (old new : PlanSource I) (says : PlanFound) → IsInputOf left known b input → IsSourceOf input old
     → Says left old new says → IsPlanIn b known says
@@ -42,17 +51,21 @@ plan_read left known false None old new says i s h = absurd i
 plan_read left known false (Some x) source.Sample new says i s h = absurd s
 plan_read left known false (Some x) (source.Text w) source.Sample says i s h = absurd h
 plan_read left known false (Some x) (source.Text w) (source.Text v) says i s h =
-    (h.0, read_in TEXT_LIMIT known left w x (left (inner_of v)) h.0 s.0 i h.1, h.2)
+    (h.0, read_text TEXT_LIMIT known (left w) (left v) h.0 (subst (λ y. Keeps known (left y)) (sym s) i) h.1, h.2)
 
 -- of a plan that is read from the input of its word, and a script from that of its own
-module _ (bytes_of : Text → Option (List ℕ)) (plan script : Text) {I : Type 0} (left : I → Option (List ℕ)) (input : Option I) (old new : PlanSource I) (w : Watched I) (opened : I) (t : Option (List ℕ))
-    (is_input : IsInputOf left (bytes_of plan) (is_sample plan) input) (is_source : IsSourceOf input old) (is : inner_of w ≡ opened) (kept : Keeps (bytes_of script) (left opened)) where
-  pub found_read : (found : Found) → HasRead left old new (left (inner_of w)) t found → IsFoundIn bytes_of plan script found
+module _ (bytes_of : Text → Option (List ℕ)) (plan script : Text) {I : Type 0} (left : I → Option (List ℕ)) (input : Option I) (old new : PlanSource I) (s t : Option (List ℕ))
+    (is_input : IsInputOf left (bytes_of plan) (is_sample plan) input) (is_source : IsSourceOf input old) (kept : Keeps (bytes_of script) s) where
+  pub found_read : (found : Found) → HasRead left old new s t found → IsFoundIn bytes_of plan script found
   found_read (Ok found) h =
-      (plan_read left (bytes_of plan) (is_sample plan) input old new (Ok found.0) is_input is_source h.0, read_in TEXT_LIMIT (bytes_of script) left w opened t found.1 is kept h.1)
+      (plan_read left (bytes_of plan) (is_sample plan) input old new (Ok found.0) is_input is_source h.0, read_text TEXT_LIMIT (bytes_of script) s t found.1 kept h.1)
   found_read (Err why) h = plan_read left (bytes_of plan) (is_sample plan) input old new (Err why) is_input is_source h.0
 
-  pub judged_read : (j : Judged) → HasJudged left old new (left (inner_of w)) t j → IsJudgedIn bytes_of plan script j
+  pub long_read : IsTooLong left old new s t → HaveLong bytes_of plan script
+  long_read (inl h) = inl (plan_long left (bytes_of plan) (is_sample plan) input old new is_input is_source h.0)
+  long_read (inr h) = inr (h.0, plan_read left (bytes_of plan) (is_sample plan) input old new (Ok h.0) is_input is_source h.1, read_long TEXT_LIMIT (bytes_of script) s t kept h.2)
+
+  pub judged_read : (j : Judged) → HasJudged left old new s t j → IsJudgedIn bytes_of plan script j
   judged_read j h = (h.0, found_read h.0 h.1, h.2)
 
 -- EVENTS is apart from the words' files where it is from those that their inputs read

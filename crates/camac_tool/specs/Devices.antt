@@ -1,25 +1,13 @@
--- What the devices of a run are given.
-use Rattle.std.specs.Prelude.{◌≡◌, ◌⊎◌, ℕ, Bool, true, false, List, [], Option, Result, Err}
+-- What the devices of a run are given, and what EVENTS holds.
+use Rattle.std.specs.Prelude.{◌≡◌, ◌⊎◌, ℕ, Bool, true, List, Option, None, Some, Result, Err}
 use Rattle.std.specs.Io.KnownBytes.{Keeps, append_known}
 use Rattle.camac_engines.specs.declared.fault.ToolFault.{ToolFault}
 use Rattle.camac_engines.specs.declared.fault.ToolFault.TheVariants.{Write}
 use Rattle.camac_engines.specs.declared.outcome.Outcome.{Outcome}
 use Rattle.camac_play.specs.RunIo.{RunState}
 use Rattle.camac_play.specs.declared.telling.Telling.TheVariants.{Listing}
-use Rattle.camac_tool.specs.Run.{Runs}
-use Rattle.camac_tool.specs.World.{World}
-
--- before a run: what is left to read of the answers, what the listing and the event file hold, and whether one of these has failed
-abbrev pub before : (answers listing records : Option (List ℕ)) → (failed : Bool) → RunState
-before answers listing records failed = record {
-  remaining = answers;
-  listed = listing;
-  recorded = records;
-  read_failed = false;
-  write_failed = failed;
-  gathers = true;
-  names = [];
-}
+use Rattle.camac_tool_run.specs.Run.{Runs}
+use Rattle.camac_tool_run.specs.World.{World}
 
 -- a device has got all that was given but its end, which it has not
 abbrev pub HasBeginning : (given got : Option (List ℕ)) → Type 0
@@ -35,3 +23,12 @@ IsHandedOn given listed recorded ran outcome =
 abbrev pub RunsOnDevices : {P : Type 0} → World P → (RunState → World P) → (listed recorded : Option (List ℕ)) → Result Outcome ToolFault → Type 0
 RunsOnDevices old after listed recorded outcome =
     (ran : Result Outcome ToolFault) × (given : RunState) × Runs old (after given) Listing ran × IsHandedOn given listed recorded ran outcome
+
+-- what EVENTS holds: until it is made, what is there before its first byte
+abbrev pub bytes_in : {E : Type 0} → (begun : Option (List ℕ)) → (holds : E → Option (List ℕ)) → Option E → Option (List ℕ)
+bytes_in begun holds None = begun
+bytes_in begun holds (Some file) = holds file
+
+-- these bytes are on the disk, or nothing was written
+abbrev pub IsKept : (begun : Option (List ℕ)) → (saves : Option (List ℕ) → Bool) → Option (List ℕ) → Type 0
+IsKept begun saves bytes = (bytes ≡ begun) ⊎ (saves bytes ≡ true)

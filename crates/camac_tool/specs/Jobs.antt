@@ -3,8 +3,8 @@ use Rattle.std.specs.Prelude.{◌≡◌, ◌⊎◌, ℕ, Bool, true, false, List
 use Rattle.std.specs.Io.KnownBytes.{Keeps}
 use Rattle.clap.specs.Words.{Text}
 use Rattle.camac_event.specs.Reading.{file_at}
-use Rattle.camac_explain.specs.Explanation.{IsRuleOf}
-use Rattle.camac_explain.specs.declared.rule.Rule.{Rule}
+use Rattle.camac_explain_rule.specs.Advice.{IsRuleOf}
+use Rattle.camac_explain_rule.specs.declared.rule.Rule.{Rule}
 use Rattle.camac_play.specs.declared.telling.Telling.{Telling}
 use Rattle.camac_play.specs.declared.telling.Telling.TheVariants.{Listing, Requests}
 use Rattle.camac_response_times.specs.Setting.{ReadsSettings}
@@ -22,42 +22,42 @@ use Rattle.camac_engines.specs.declared.ask.Ask.TheVariants as ask
 use Rattle.camac_engines.specs.declared.ask.PlanAsk.{PlanAsk}
 use Rattle.camac_engines.specs.declared.ask.PlanAsk.TheVariants as plan_ask
 use Rattle.camac_engines.specs.declared.fault.ToolFault.{ToolFault}
-use Rattle.camac_engines.specs.declared.fault.ToolFault.TheVariants.{Write}
+use Rattle.camac_engines.specs.declared.fault.ToolFault.TheVariants.{TooLong, Write}
 use Rattle.camac_engines.specs.declared.judging.Judged.{Judged}
 use Rattle.camac_engines.specs.declared.outcome.Outcome.{Outcome}
 use Rattle.camac_engines.specs.declared.reading.TheConstants.{EVENTS_LIMIT}
 use Rattle.camac_tool_words.specs.declared.words.Job.{Job}
 use Rattle.camac_tool_words.specs.declared.words.Job.TheVariants as job
-use Rattle.camac_tool.specs.Apart.{IsApartFrom, Words}
-use Rattle.camac_tool.specs.Devices.{HasBeginning}
-use Rattle.camac_tool.specs.Headline.{JudgedKeeps}
-use Rattle.camac_tool.specs.Input.{IsFoundIn, IsJudgedIn, IsPlanOf, IsTextOf}
-use Rattle.camac_tool.specs.Run.{RunsJudged}
-use Rattle.camac_tool.specs.Saved.{IsKept}
-use Rattle.camac_tool.specs.declared.host.Earlier.TheVariants.{Emptied, Refused}
-use Rattle.camac_tool.specs.declared.host.FileId.{FileId}
+use Rattle.camac_tool_host.specs.Apart.{IsApartFrom, Words, is_sample}
+use Rattle.camac_tool.specs.Devices.{HasBeginning, IsKept}
+use Rattle.camac_tool_run.specs.Headline.{JudgedKeeps}
+use Rattle.camac_tool.specs.Input.{HaveLong, IsFoundIn, IsJudgedIn, IsLong, IsLongPlan, IsPlanOf, IsTextOf}
+use Rattle.camac_tool_run.specs.Run.{RunsJudged}
+use Rattle.camac_tool_host.specs.declared.host.Earlier.TheVariants.{Emptied, Refused}
+use Rattle.camac_tool_host.specs.declared.host.FileId.{FileId}
 use Rattle.camac_tool.specs.declared.program.Done.{Done}
 use Rattle.camac_tool.specs.declared.program.Done.TheVariants.{Answered, Misused, NoCode}
 use Rattle.camac_tool.specs.declared.program.Question.{Question}
 use Rattle.camac_tool.specs.declared.program.Question.TheVariants as question
 
 -- What an output had is o, and what it has is p. Such a text came to it: all of it at its outcome, and after a write fault a prefix of it. After another
--- fault nothing did.
-abbrev pub Tells : (Says : Outcome → List ℕ → Type 0) → (o p : Option (List ℕ)) → Result Done ToolFault → Type 0
-Tells Says o p (Ok (Answered outcome)) = IsWritten Says o p (Ok outcome)
-Tells Says o p (Ok _) = ⊥
-Tells Says o p (Err Write) = IsWritten Says o p (Err Write)
-Tells Says o p (Err _) = Keeps o p
+-- fault nothing did. No input is too long unless this is so.
+abbrev pub TellsText : (IsTooLong : Type 0) → (Says : Outcome → List ℕ → Type 0) → (o p : Option (List ℕ)) → Result Done ToolFault → Type 0
+TellsText IsTooLong Says o p (Ok (Answered outcome)) = IsWritten Says o p (Ok outcome)
+TellsText IsTooLong Says o p (Ok _) = ⊥
+TellsText IsTooLong Says o p (Err Write) = IsWritten Says o p (Err Write)
+TellsText IsTooLong Says o p (Err TooLong) = IsTooLong × Keeps o p
+TellsText IsTooLong Says o p (Err _) = Keeps o p
 
 -- the same, or words are wrong
-abbrev pub TellsUnless : (AreWrong : Misuse → Type 0) → (Says : Outcome → List ℕ → Type 0) → (o p : Option (List ℕ)) → Result Done ToolFault → Type 0
-TellsUnless AreWrong Says o p (Ok (Misused misuse)) = AreWrong misuse × Keeps o p
-TellsUnless AreWrong Says o p r = Tells Says o p r
+abbrev pub TellsUnless : (AreWrong : Misuse → Type 0) → (IsTooLong : Type 0) → (Says : Outcome → List ℕ → Type 0) → (o p : Option (List ℕ)) → Result Done ToolFault → Type 0
+TellsUnless AreWrong IsTooLong Says o p (Ok (Misused misuse)) = AreWrong misuse × Keeps o p
+TellsUnless AreWrong IsTooLong Says o p r = TellsText IsTooLong Says o p r
 
 -- of a rule by its code, and of a word that is none
 abbrev pub ExplainsRule : Text → (o p : Option (List ℕ)) → Result Done ToolFault → Type 0
 ExplainsRule code o p (Ok (NoCode word)) = IsRuleOf code None × Keeps o p
-ExplainsRule code o p r = (rule : Rule) × IsRuleOf code (Some rule) × Tells (TellsRule rule) o p r
+ExplainsRule code o p r = (rule : Rule) × IsRuleOf code (Some rule) × TellsText ⊥ (TellsRule rule) o p r
 
 abbrev pub run_words : (plan script answers events : Text) → Words
 run_words plan script answers events = record { plan = plan; script = script; answers = answers; events = events; earlier = Emptied }
@@ -92,14 +92,15 @@ HandsOn Gives o p r = (given : Option (List ℕ)) × OrWriteFault (Gives o given
 -- of each word the bytes of the input that it names
 module _ (bytes_of : Text → Option (List ℕ)) where
   -- of a plan; of a plan and a script; of an event file
-  abbrev pub PlanTells : (plan : Text) → PlanAsk → Outcome → List ℕ → Type 0
-  PlanTells plan a outcome text = (says : PlanFound) × IsPlanOf bytes_of plan says × TellsPlan a says outcome text
+  abbrev pub PlanTells : (plan : Text) → PlanAsk → (o p : Option (List ℕ)) → Result Done ToolFault → Type 0
+  PlanTells plan a = TellsText (IsLongPlan (is_sample plan) (bytes_of plan)) (λ outcome text. (says : PlanFound) × IsPlanOf bytes_of plan says × TellsPlan a says outcome text)
 
-  abbrev pub ScriptTells : (plan script : Text) → Ask → Outcome → List ℕ → Type 0
-  ScriptTells plan script a outcome text = (found : Found) × IsFoundIn bytes_of plan script found × TellsFound a found outcome text
+  abbrev pub ScriptTells : (plan script : Text) → Ask → (o p : Option (List ℕ)) → Result Done ToolFault → Type 0
+  ScriptTells plan script a = TellsText (HaveLong bytes_of plan script) (λ outcome text. (found : Found) × IsFoundIn bytes_of plan script found × TellsFound a found outcome text)
 
-  abbrev pub EventsTell : (file : Text) → Outcome → List ℕ → Type 0
-  EventsTell file outcome text = (bytes : List ℕ) × IsTextOf EVENTS_LIMIT (bytes_of file) bytes × Reports (report_events (file_at bytes)) outcome text
+  abbrev pub EventsTell : (file : Text) → (o p : Option (List ℕ)) → Result Done ToolFault → Type 0
+  EventsTell file =
+      TellsText (IsLong EVENTS_LIMIT (bytes_of file)) (λ outcome text. (bytes : List ℕ) × IsTextOf EVENTS_LIMIT (bytes_of file) bytes × Reports (report_events (file_at bytes)) outcome text)
 
   -- of a plan and a script, at the settings of the words
   abbrev pub ResponseTells : (plan script : Text) → (every within : List Text) → Outcome → List ℕ → Type 0
@@ -112,12 +113,12 @@ module _ (bytes_of : Text → Option (List ℕ)) where
       ReadsSettings every within (Err misuse) ⊎ ((s : Settings) × ReadsSettings every within (Ok s) × ((j : Judged) × IsJudgedIn bytes_of plan script j × NamesNone s j misuse))
 
   abbrev pub Responds : (plan script : Text) → (every within : List Text) → (o p : Option (List ℕ)) → Result Done ToolFault → Type 0
-  Responds plan script every within = TellsUnless (AreWrong plan script every within) (ResponseTells plan script every within)
+  Responds plan script every within = TellsUnless (AreWrong plan script every within) (HaveLong bytes_of plan script) (ResponseTells plan script every within)
 
   abbrev pub Replies : Question → (o p : Option (List ℕ)) → Result Done ToolFault → Type 0
-  Replies (question.Plan a plan) = Tells (PlanTells plan.now a)
-  Replies (question.Script a plan script) = Tells (ScriptTells plan.now script.now a)
-  Replies (question.Known line column turns plan script) = Tells (ScriptTells plan.now script.now (ask.ExplainAt line column turns.items))
+  Replies (question.Plan a plan) = PlanTells plan.now a
+  Replies (question.Script a plan script) = ScriptTells plan.now script.now a
+  Replies (question.Known line column turns plan script) = ScriptTells plan.now script.now (ask.ExplainAt line column turns.items)
   Replies (question.Response plan script every within) = Responds plan.now script.now (map (λ w. w.now) every.items) (map (λ w. w.now) within.items)
 
   -- the system finds files by their names, and an EVENTS that it makes holds no bytes, where they are known
@@ -137,6 +138,7 @@ module _ (bytes_of : Text → Option (List ℕ)) where
       abbrev pub RunsTold : (f o p : Option (List ℕ)) → Result Done ToolFault → Type 0
       RunsTold f o p (Ok (Answered outcome)) = RunTells f o p (Ok outcome) × HasHeadline f outcome
       RunsTold f o p (Ok _) = ⊥
+      RunsTold f o p (Err TooLong) = HaveLong bytes_of w.plan w.script × Keeps o p
       RunsTold f o p (Err fault) = Keeps o p ⊎ RunTells f o p (Err fault)
 
     -- at the end without a fault EVENTS holds f, and is on the disk
@@ -153,20 +155,20 @@ module _ (bytes_of : Text → Option (List ℕ)) where
   -- what is on the disk is known by the words of a run
   abbrev pub DoesJob : (finds : Text → Option FileId → Type 0) → (begun : Option (List ℕ)) → (saved : Words → Option (List ℕ) → Bool) → Job
       → (o p : Option (List ℕ)) → Result Done ToolFault → Type 0
-  DoesJob finds begun saved (job.Plan plan) = HandsOn (Tells (PlanTells plan.now plan_ask.Lines))
-  DoesJob finds begun saved (job.Commands plan) = HandsOn (Tells (PlanTells plan.now plan_ask.Commands))
-  DoesJob finds begun saved (job.ExplainPlan plan) = HandsOn (Tells (PlanTells plan.now plan_ask.Explain))
+  DoesJob finds begun saved (job.Plan plan) = HandsOn (PlanTells plan.now plan_ask.Lines)
+  DoesJob finds begun saved (job.Commands plan) = HandsOn (PlanTells plan.now plan_ask.Commands)
+  DoesJob finds begun saved (job.ExplainPlan plan) = HandsOn (PlanTells plan.now plan_ask.Explain)
   DoesJob finds begun saved (job.ExplainRule code) = ExplainsRule code.now
-  DoesJob finds begun saved (job.Check plan script) = HandsOn (Tells (ScriptTells plan.now script.now ask.Check))
-  DoesJob finds begun saved (job.Explain plan script) = HandsOn (Tells (ScriptTells plan.now script.now ask.Explain))
-  DoesJob finds begun saved (job.ExplainBounds plan script) = HandsOn (Tells (ScriptTells plan.now script.now ask.ExplainBounds))
-  DoesJob finds begun saved (job.ExplainAt line column turns plan script) = HandsOn (Tells (ScriptTells plan.now script.now (ask.ExplainAt line column turns.items)))
-  DoesJob finds begun saved (job.Bounds plan script) = HandsOn (Tells (ScriptTells plan.now script.now ask.Bounds))
-  DoesJob finds begun saved (job.Costs plan script) = HandsOn (Tells (ScriptTells plan.now script.now ask.Costs))
-  DoesJob finds begun saved (job.Tell plan script) = HandsOn (Tells (ScriptTells plan.now script.now ask.Tell))
+  DoesJob finds begun saved (job.Check plan script) = HandsOn (ScriptTells plan.now script.now ask.Check)
+  DoesJob finds begun saved (job.Explain plan script) = HandsOn (ScriptTells plan.now script.now ask.Explain)
+  DoesJob finds begun saved (job.ExplainBounds plan script) = HandsOn (ScriptTells plan.now script.now ask.ExplainBounds)
+  DoesJob finds begun saved (job.ExplainAt line column turns plan script) = HandsOn (ScriptTells plan.now script.now (ask.ExplainAt line column turns.items))
+  DoesJob finds begun saved (job.Bounds plan script) = HandsOn (ScriptTells plan.now script.now ask.Bounds)
+  DoesJob finds begun saved (job.Costs plan script) = HandsOn (ScriptTells plan.now script.now ask.Costs)
+  DoesJob finds begun saved (job.Tell plan script) = HandsOn (ScriptTells plan.now script.now ask.Tell)
   DoesJob finds begun saved (job.Response plan script every within) =
       HandsOn (Responds plan.now script.now (map (λ w. w.now) every.items) (map (λ w. w.now) within.items))
-  DoesJob finds begun saved (job.Events file) = HandsOn (Tells (EventsTell file.now))
+  DoesJob finds begun saved (job.Events file) = HandsOn (EventsTell file.now)
   DoesJob finds begun saved (job.Run plan script answers events) =
       let w = run_words plan.now script.now answers.now events.now in DoesRun finds begun w (saved w)
   DoesJob finds begun saved (job.Drive plan script events) =

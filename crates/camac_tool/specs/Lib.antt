@@ -1,13 +1,5 @@
-pub mod World
-pub mod Run
-pub mod Headline
 pub mod Input
-pub mod Apart
-pub mod Saved
 pub mod Jobs
 pub mod Causes
 pub mod Status
-pub mod Gathered
-pub mod Streams
 pub mod Devices
-pub mod Files

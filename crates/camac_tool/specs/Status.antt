@@ -7,16 +7,17 @@ use Rattle.clap.specs.declared.error.kind.ErrorKind.TheVariants as kind
 use Rattle.camac_response_times.specs.declared.setting.Misuse.{Misuse}
 use Rattle.camac_response_times.specs.declared.setting.Misuse.TheVariants.{Form}
 use Rattle.camac_engines.specs.Engine.{is_write_fault, status_of}
+use Rattle.camac_engines.specs.Reading.{is_read_fault}
 use Rattle.camac_engines.specs.declared.fault.ToolFault.{ToolFault}
 use Rattle.camac_engines.specs.declared.fault.ToolFault.TheVariants.{Write}
 use Rattle.camac_tool_words.specs.Words.{IsFaultOf, IsJob, camac_app, input_count_of}
 use Rattle.camac_tool_words.specs.declared.words.Job.{Job}
 use Rattle.camac_tool_words.specs.declared.words.JobFault.{JobFault}
 use Rattle.camac_tool_words.specs.declared.words.JobFault.TheVariants.{Usage, InTwice}
-use Rattle.camac_tool.specs.Apart.{Words}
-use Rattle.camac_tool.specs.Causes.{CanFail}
+use Rattle.camac_tool_host.specs.Apart.{Words}
+use Rattle.camac_tool.specs.Causes.{CanBeUnread, CanFail}
 use Rattle.camac_tool.specs.Jobs.{DoesJob}
-use Rattle.camac_tool.specs.declared.host.FileId.{FileId}
+use Rattle.camac_tool_host.specs.declared.host.FileId.{FileId}
 use Rattle.camac_tool.specs.declared.program.Done.{Done}
 use Rattle.camac_tool.specs.declared.program.Done.TheVariants.{Answered, Misused, NoCode}
 
@@ -41,22 +42,24 @@ EndsAs (Ok (Misused misuse)) s = EndsMisuse misuse s
 EndsAs (Ok (NoCode word)) s = s ≡ 2
 EndsAs (Err fault) s = EndsStopped fault s
 
--- A job whose output had o, and has p, and has failed or not, on such files. A write fault had a cause.
+-- A job whose output had o, and has p, and has failed or not, on such files. A fault of these had a cause.
 abbrev pub EndsJob : (bytes_of : Text → Option (List ℕ)) → (finds : Text → Option FileId → Type 0) → (begun : Option (List ℕ)) → (saved : Words → Option (List ℕ) → Bool) → (fails : Bool) → Job
     → (o p : Option (List ℕ)) → (failed : Bool) → ℕ → Type 0
 EndsJob bytes_of finds begun saved fails job o p failed s =
-    (done : Result Done ToolFault) × DoesJob bytes_of finds begun saved job o p done × (is_write_fault done ≡ true → CanFail finds fails job failed) × EndsAs done s
+    (done : Result Done ToolFault) × DoesJob bytes_of finds begun saved job o p done × (is_write_fault done ≡ true → CanFail finds fails job failed)
+    × (is_read_fault done ≡ true → CanBeUnread fails job) × EndsAs done s
 
--- Of what `clap` answers in place of a job: out of memory; help or version, which end well unless they cannot be written; a mistake.
-abbrev pub EndsUsage : ErrorKind → ℕ → Type 0
-EndsUsage kind.OutOfMemory s = s ≡ 3
-EndsUsage kind.DisplayHelp s = (s ≡ 0) ⊎ EndsStopped Write s
-EndsUsage kind.DisplayVersion s = (s ≡ 0) ⊎ EndsStopped Write s
-EndsUsage k s = s ≡ 2
+-- Of what `clap` answers in place of a job: out of memory; help or version, which end well unless they cannot be written, where a call of the host fails; a
+-- mistake.
+abbrev pub EndsUsage : (fails : Bool) → ErrorKind → ℕ → Type 0
+EndsUsage fails kind.OutOfMemory s = s ≡ 3
+EndsUsage fails kind.DisplayHelp s = (s ≡ 0) ⊎ ((fails ≡ true) × EndsStopped Write s)
+EndsUsage fails kind.DisplayVersion s = (s ≡ 0) ⊎ ((fails ≡ true) × EndsStopped Write s)
+EndsUsage fails k s = s ≡ 2
 
-abbrev pub EndsFault : JobFault → ℕ → Type 0
-EndsFault InTwice s = s ≡ 2
-EndsFault (Usage e) s = EndsUsage (kind_of e) s
+abbrev pub EndsFault : (fails : Bool) → JobFault → ℕ → Type 0
+EndsFault fails InTwice s = s ≡ 2
+EndsFault fails (Usage e) s = EndsUsage fails (kind_of e) s
 
 -- Of these words: of the job that they name, which takes standard input at most once. Or nothing is told: of their fault, or since there are no places for
 -- the standard streams, where a call of the host fails.
@@ -64,4 +67,4 @@ abbrev pub Ends : (bytes_of : Text → Option (List ℕ)) → (finds : Text → 
     → (o p : Option (List ℕ)) → (failed : Bool) → ℕ → Type 0
 Ends bytes_of finds begun saved fails words o p failed s =
     ((job : Job) × IsJob job (subcommand_of camac_app words) × (input_count_of job ≤ 1) × EndsJob bytes_of finds begun saved fails job o p failed s)
-    ⊎ (Keeps o p × (((fault : JobFault) × IsFaultOf words fault × EndsFault fault s) ⊎ ((s ≡ 3) × (fails ≡ true))))
+    ⊎ (Keeps o p × (((fault : JobFault) × IsFaultOf words fault × EndsFault fails fault s) ⊎ ((s ≡ 3) × (fails ≡ true))))

@@ -1,16 +1,17 @@
 // Why a call on a file or a standard stream failed: what stands below the line of a fault.
 
-ghost use Rattle.std.specs.Prelude.{◌≡◌};
+ghost use Rattle.std.specs.Prelude.{◌≡◌, Bool, true};
 ghost use Rattle.camac_tool.specs.Status.{EndsStopped, fault_status};
 ghost use Rattle.camac_engines.specs.declared.fault.ToolFault.TheVariants.{Read as read-fault, Write as write-fault};
 
-use crate::device::Device;
 use arrayvec::ArrayString;
 use camac_engines::{ToolFault, status};
+use camac_tool_host::Device;
 use std::cell::Cell;
 use std::fmt::Write as TextWrite;
 use std::io;
-use std::io::{Eprint, Error, ErrorKind, Read};
+use std::io::{Eprint, Error, ErrorKind};
+use std::marker::Brand;
 
 /// What stands between the system's text of an error and its number, as the kit writes them.
 const NUMBER: &str = " (os error ";
@@ -73,11 +74,20 @@ fn fault_status(fault: ToolFault, is_closed: bool) -> u8
     }
 }
 
-/// A reader or a writer of the program, under the name by which a fault tells of it.
+/// For the proof alone: whether a call of the host fails.
+pub trait Failing {
+    ghost fails: { Bool };
+}
+
+impl Failing for Brand {
+    ghost fails = { true };
+}
+
+/// A writer of the program, under the name by which a fault tells of it.
 #[derive(Drop)]
 pub struct Named<'f, 'a, D: Drop> {
     pub device: D,
-    pub name: &'a str,
+    name: &'a str,
     failure: &'f Failure<'a>,
 }
 
@@ -97,18 +107,6 @@ impl<'f, 'a, D: Drop> Named<'f, 'a, D> {
         ensures { result ≡ write-fault }
     {
         self.failure.write(self.name, why)
-    }
-}
-
-impl<R: Read + Drop> Read for Named<'_, '_, R> {
-    ghost remaining = { λ n. R.remaining n.device };
-
-    fn read(&mut self, buf: &mut [u8]) -> io::Result<usize> {
-        let result = self.device.read(buf);
-        if let Err(why) = &result {
-            self.failure.read(self.name, *why);
-        }
-        result
     }
 }
 

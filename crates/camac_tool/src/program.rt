@@ -1,42 +1,41 @@
 // The program, from its words to its exit status.
 
-ghost use Rattle.std.specs.Prelude.{◌≡◌, ◌⊎◌, IfOk, List, ℕ, Option, map, string_bytes, true};
+ghost use Rattle.std.specs.Prelude.{◌≡◌, ◌⊎◌, ◌||◌, IfErr, IfOk, List, ℕ, Option, map, string_bytes, true, false};
 ghost use Rattle.std.specs.Io.KnownBytes.{Keeps};
 ghost use Rattle.clap.specs.Words.{kind_of};
-ghost use Rattle.camac_tool.specs.Apart.{IsApartFrom, IsTakenBy, words_of};
-ghost use Rattle.camac_tool.specs.Input.{IsInputOf, is_sample};
-ghost use Rattle.camac_tool.specs.Jobs.{DoesJob, DoesRun, Drives, EventsTell, ExplainsRule, HandsOn, IsSettled, PlanTells, Replies, Responds, ScriptTells, Tells};
-ghost use Rattle.camac_tool.specs.Causes.{CanFail, RunCanFail, held_fault};
-ghost use Rattle.camac_tool.specs.Saved.{IsKept, bytes_in};
+ghost use Rattle.camac_tool_host.specs.Apart.{IsApartFrom, IsTakenBy, is_sample, words_of};
+ghost use Rattle.camac_tool.specs.Input.{IsInputOf};
+ghost use Rattle.camac_tool.specs.Jobs.{DoesJob, DoesRun, Drives, EventsTell, ExplainsRule, HandsOn, IsSettled, PlanTells, Replies, Responds, ScriptTells};
+ghost use Rattle.camac_tool.specs.Causes.{CanBeUnread, CanFail, RunCanFail, held_fault};
+ghost use Rattle.camac_tool.specs.Devices.{IsKept, bytes_in};
 ghost use Rattle.camac_tool.specs.Status.{Ends, EndsAs, EndsJob, EndsMisuse, EndsUsage};
 ghost use Rattle.camac_tool.specs.declared.launch.ArgumentsFault.TheVariants.{Memory, NotText};
 ghost use Rattle.camac_engines.specs.Engine.{is_write_fault};
+ghost use Rattle.camac_engines.specs.declared.fault.ToolFault.TheVariants.{Read as read-fault, Write as write-fault};
+ghost use Rattle.camac_engines.specs.Reading.{is_read_fault};
 ghost use Rattle.camac_word.specs.Watched.{inner_of, has_failed};
 
-use crate::device::{Device, Whole};
 use crate::devices::run_on_devices;
-use crate::failure::{Failure, Named};
-use crate::gathered::Gathered;
-use crate::host::{Earlier, Host, RunWords};
-use crate::input::{open, open_plan, source_of};
+use crate::failure::{Failing, Failure, Named};
+use crate::input::{InputReader, open, open_plan, source_of};
 use crate::launch::ArgumentsFault;
-use crate::live::Live;
-use crate::running::run_over;
 use crate::target::{NewFile, Saving, keep_apart, settle};
 use camac_engines::{
     Ask, Outcome, PlanAsk, Responded, ToolFault, Turns, answer, answer_plan, engine_events,
     engine_explain_rule, engine_response, status,
 };
 use camac_event::TextWriter;
-use camac_explain::Rule;
+use camac_explain_rule::Rule;
 use camac_play::Telling;
 use camac_response::{Misuse, read_settings};
+use camac_tool_host::{Device, Earlier, Gathered, Host, Live, RunWords, Whole};
+use camac_tool_run::run_over;
 use camac_tool_words::{Job, JobFault, read_words, setting_error};
 use camac_word::{Watched, WriteFault};
 use clap::Error;
 use clap::error::ErrorKind;
-use std::io::{Eprint, Print, Write};
-use std::marker::Brand;
+use std::io::{Eprint, Write};
+use std::marker::{Brand, PhantomData};
 
 /// The status of a usage fault.
 const USAGE: u8 = 2;
@@ -55,27 +54,29 @@ const OF_CHECK: [&str; 5] = ["--strict", "--write", "--keeps", "--json", "--form
 /// Does what the words after the program's name ask for. Returns the exit status: 0 or 1 by the outcome, 2 where the words ask for nothing
 /// that is there, 3 for a fault, and 141 where a pipe was written that its reader closed. What a job tells goes to `out`, which is returned,
 /// and of which it is told whether a call has failed. Help and version go to standard output, and end with 0. A fault is a line on standard error, and below it its file and the reason.
-pub fn exit_status<R: Host + Print + Eprint + AllocGlobal, W: Write + Drop>(
+pub fn exit_status<R: Host + Eprint + AllocGlobal, W: Write + Drop>(
     rt: &R,
     words: &[String],
     out: W,
 ) -> (u8, Watched<W>)
     ensures { Ends (R.bytes_of rt.now) (R.finds rt.now) (R.begun rt.now) (R.saved rt.now) (R.fails rt.now) (map string_bytes words.now) (W.contents out) (W.contents (inner_of result.1)) (has_failed result.1) result.0 }
 {
-    serve_words(rt, words, Watched::new(out))
+    serve_words::<Brand, R, Watched<W>>(rt, words, Watched::new(out))
 }
 
-fn serve_words<R: Host + Print + Eprint + AllocGlobal, D: Device + Drop>(
+fn serve_words<K: Failing, R: Host + Eprint + AllocGlobal, D: Device + Drop>(
     rt: &R,
     words: &[String],
     out: D,
 ) -> (u8, D)
+    requires { R.fails rt.now ≡ K.fails }
     ensures { Ends (R.bytes_of rt.now) (R.finds rt.now) (R.begun rt.now) (R.saved rt.now) (R.fails rt.now) (map string_bytes words.now) (D.contents out) (D.contents result.1) (D.failed result.1) result.0 }
 {
     let failure = Failure::none();
-    let tool = Tool {
+    let tool = Tool::<'_, '_, '_, R, K> {
         rt,
         failure: &failure,
+        of: PhantomData,
     };
     let _places = match rt.hold_places() {
         Ok(places) => places,
@@ -123,12 +124,14 @@ pub enum Question<'a> {
 
 // What the functions of a job share.
 #[derive(Drop)]
-struct Tool<'r, 'f, 'a, R> {
+struct Tool<'r, 'f, 'a, R: Host, K: Failing> {
     rt: &'r R,
     failure: &'f Failure<'a>,
+    of: PhantomData<K>,
+    ghost fails: { R.fails rt.now ≡ K.fails },
 }
 
-impl<'r, 'f, 'a, R: Host + Print + Eprint + AllocGlobal> Tool<'r, 'f, 'a, R> {
+impl<'r, 'f, 'a, R: Host + Eprint + AllocGlobal, K: Failing> Tool<'r, 'f, 'a, R, K> {
     fn serve<D: Device + Drop>(&self, job: Job<'a>, out: D) -> (u8, D)
         ensures { EndsJob (R.bytes_of self.now.rt.now) (R.finds self.now.rt.now) (R.begun self.now.rt.now) (R.saved self.now.rt.now) (R.fails self.now.rt.now) job.entry (D.contents out) (D.contents result.1) (D.failed result.1) result.0 }
     {
@@ -143,6 +146,7 @@ impl<'r, 'f, 'a, R: Host + Print + Eprint + AllocGlobal> Tool<'r, 'f, 'a, R> {
     fn do_job<D: Device + Drop>(&self, job: Job<'a>, out: D) -> (Result<Done<'a>, ToolFault>, D)
         ensures does { DoesJob (R.bytes_of self.now.rt.now) (R.finds self.now.rt.now) (R.begun self.now.rt.now) (R.saved self.now.rt.now) job.entry (D.contents out) (D.contents result.1) result.0 }
         ensures cause { is_write_fault result.0 ≡ true → CanFail (R.finds self.now.rt.now) (R.fails self.now.rt.now) job.entry (D.failed result.1) }
+        ensures unread { is_read_fault result.0 ≡ true → CanBeUnread (R.fails self.now.rt.now) job.entry }
     {
         match job {
             Job::Plan(plan) => self.gather(Question::Plan(PlanAsk::Lines, plan), out),
@@ -180,8 +184,9 @@ impl<'r, 'f, 'a, R: Host + Print + Eprint + AllocGlobal> Tool<'r, 'f, 'a, R> {
         script: &'a str,
         out: D,
     ) -> (Result<Done<'a>, ToolFault>, D)
-        ensures told { HandsOn (Tells (ScriptTells (R.bytes_of self.now.rt.now) plan.now script.now ask.entry)) (D.contents out) (D.contents result.1) result.0 }
+        ensures told { HandsOn (ScriptTells (R.bytes_of self.now.rt.now) plan.now script.now ask.entry) (D.contents out) (D.contents result.1) result.0 }
         ensures cause { is_write_fault result.0 ≡ true → D.failed result.1 ≡ true }
+        ensures unread { is_read_fault result.0 ≡ true → R.fails self.now.rt.now ≡ true }
     {
         self.gather(Question::Script(ask, plan, script), out)
     }
@@ -194,6 +199,7 @@ impl<'r, 'f, 'a, R: Host + Print + Eprint + AllocGlobal> Tool<'r, 'f, 'a, R> {
     ) -> (Result<Done<'a>, ToolFault>, D)
         ensures told { HandsOn (Replies (R.bytes_of self.now.rt.now) question.entry) (D.contents out) (D.contents result.1) result.0 }
         ensures cause { is_write_fault result.0 ≡ true → D.failed result.1 ≡ true }
+        ensures unread { is_read_fault result.0 ≡ true → R.fails self.now.rt.now ≡ true }
     {
         let mut text = Watched::new(Vec::new(self.rt.alloc()));
         let done = match self.reply(question, &mut text) {
@@ -214,7 +220,8 @@ impl<'r, 'f, 'a, R: Host + Print + Eprint + AllocGlobal> Tool<'r, 'f, 'a, R> {
         question: Question<'a>,
         out: &mut Watched<W>,
     ) -> Result<Done<'a>, ToolFault>
-        ensures { Replies (R.bytes_of self.now.rt.now) question.entry (W.contents (inner_of out.old)) (W.contents (inner_of out.new)) result }
+        ensures told { Replies (R.bytes_of self.now.rt.now) question.entry (W.contents (inner_of out.old)) (W.contents (inner_of out.new)) result }
+        ensures unread { is_read_fault result ≡ true → R.fails self.now.rt.now ≡ true }
     {
         match question {
             Question::Plan(ask, plan) => self.ask_plan(ask, plan, out),
@@ -240,9 +247,10 @@ impl<'r, 'f, 'a, R: Host + Print + Eprint + AllocGlobal> Tool<'r, 'f, 'a, R> {
         plan: &'a str,
         out: &mut Watched<W>,
     ) -> Result<Done<'a>, ToolFault>
-        ensures { Tells (PlanTells (R.bytes_of self.now.rt.now) plan.now ask) (W.contents (inner_of out.old)) (W.contents (inner_of out.new)) result }
+        ensures told { PlanTells (R.bytes_of self.now.rt.now) plan.now ask (W.contents (inner_of out.old)) (W.contents (inner_of out.new)) result }
+        ensures unread { is_read_fault result ≡ true → R.fails self.now.rt.now ≡ true }
     {
-        let mut plan = source_of(open_plan(self.rt, self.failure, plan)?);
+        let mut plan = source_of(open_plan::<R, K>(self.rt, self.failure, plan)?);
         let outcome = answer_plan(self.rt.alloc(), ask, &mut plan, out)?;
         Ok(Done::Answered(outcome))
     }
@@ -254,10 +262,11 @@ impl<'r, 'f, 'a, R: Host + Print + Eprint + AllocGlobal> Tool<'r, 'f, 'a, R> {
         script: &'a str,
         out: &mut Watched<W>,
     ) -> Result<Done<'a>, ToolFault>
-        ensures { Tells (ScriptTells (R.bytes_of self.now.rt.now) plan.now script.now ask.entry) (W.contents (inner_of out.old)) (W.contents (inner_of out.new)) result }
+        ensures told { ScriptTells (R.bytes_of self.now.rt.now) plan.now script.now ask.entry (W.contents (inner_of out.old)) (W.contents (inner_of out.new)) result }
+        ensures unread { is_read_fault result ≡ true → R.fails self.now.rt.now ≡ true }
     {
-        let mut plan = source_of(open_plan(self.rt, self.failure, plan)?);
-        let mut script = Watched::new(open(self.rt, self.failure, script)?);
+        let mut plan = source_of(open_plan::<R, K>(self.rt, self.failure, plan)?);
+        let mut script = open::<R, K>(self.rt, self.failure, script)?;
         let outcome = answer(self.rt.alloc(), ask, &mut plan, &mut script, out)?;
         Ok(Done::Answered(outcome))
     }
@@ -271,14 +280,15 @@ impl<'r, 'f, 'a, R: Host + Print + Eprint + AllocGlobal> Tool<'r, 'f, 'a, R> {
         within: &[&'a str],
         out: &mut Watched<W>,
     ) -> Result<Done<'a>, ToolFault>
-        ensures { Responds (R.bytes_of self.now.rt.now) plan.now script.now (map (λ w. w.now) every.now) (map (λ w. w.now) within.now) (W.contents (inner_of out.old)) (W.contents (inner_of out.new)) result }
+        ensures told { Responds (R.bytes_of self.now.rt.now) plan.now script.now (map (λ w. w.now) every.now) (map (λ w. w.now) within.now) (W.contents (inner_of out.old)) (W.contents (inner_of out.new)) result }
+        ensures unread { is_read_fault result ≡ true → R.fails self.now.rt.now ≡ true }
     {
         let settings = match read_settings(self.rt.alloc(), every, within)? {
             Ok(settings) => settings,
             Err(misuse) => return Ok(Done::Misused(misuse)),
         };
-        let mut plan = source_of(open_plan(self.rt, self.failure, plan)?);
-        let mut script = Watched::new(open(self.rt, self.failure, script)?);
+        let mut plan = source_of(open_plan::<R, K>(self.rt, self.failure, plan)?);
+        let mut script = open::<R, K>(self.rt, self.failure, script)?;
         match engine_response(self.rt.alloc(), &settings, &mut plan, &mut script, out)? {
             Responded::Told(outcome) => Ok(Done::Answered(outcome)),
             Responded::Misused(misuse) => Ok(Done::Misused(misuse)),
@@ -291,14 +301,15 @@ impl<'r, 'f, 'a, R: Host + Print + Eprint + AllocGlobal> Tool<'r, 'f, 'a, R> {
         file: &'a str,
         out: D,
     ) -> (Result<Done<'a>, ToolFault>, D)
-        ensures { HandsOn (Tells (EventsTell (R.bytes_of self.now.rt.now) file.now)) (D.contents out) (D.contents result.1) result.0 }
+        ensures told { HandsOn (EventsTell (R.bytes_of self.now.rt.now) file.now) (D.contents out) (D.contents result.1) result.0 }
+        ensures cause { is_write_fault result.0 ≡ true → D.failed result.1 ≡ true }
+        ensures unread { is_read_fault result.0 ≡ true → R.fails self.now.rt.now ≡ true }
     {
         let mut out = match Gathered::new(self.rt.alloc(), out) {
-            Ok(out) => Watched::new(out),
+            Ok(out) => out,
             Err(out) => return (Err(ToolFault::Memory), out),
         };
         let done = self.write_events(file, &mut out);
-        let mut out = out.into_inner();
         match done {
             Ok(done) => match out.flush() {
                 Ok(()) => (Ok(done), out.into_inner()),
@@ -308,14 +319,12 @@ impl<'r, 'f, 'a, R: Host + Print + Eprint + AllocGlobal> Tool<'r, 'f, 'a, R> {
         }
     }
 
-    fn write_events<W: Write>(
-        &self,
-        file: &'a str,
-        out: &mut Watched<W>,
-    ) -> Result<Done<'a>, ToolFault>
-        ensures { Tells (EventsTell (R.bytes_of self.now.rt.now) file.now) (W.contents (inner_of out.old)) (W.contents (inner_of out.new)) result }
+    fn write_events<W: TextWriter>(&self, file: &'a str, out: &mut W) -> Result<Done<'a>, ToolFault>
+        ensures told { EventsTell (R.bytes_of self.now.rt.now) file.now (W.contents out.old) (W.contents out.new) result }
+        ensures failed { W.failed out.new ≡ (W.failed out.old || is_write_fault result) }
+        ensures unread { is_read_fault result ≡ true → R.fails self.now.rt.now ≡ true }
     {
-        let mut input = Watched::new(open(self.rt, self.failure, file)?);
+        let mut input = open::<R, K>(self.rt, self.failure, file)?;
         let outcome = engine_events(self.rt.alloc(), &mut input, out)?;
         Ok(Done::Answered(outcome))
     }
@@ -328,6 +337,7 @@ impl<'r, 'f, 'a, R: Host + Print + Eprint + AllocGlobal> Tool<'r, 'f, 'a, R> {
     ) -> (Result<Done<'a>, ToolFault>, D)
         ensures told { ExplainsRule code.now (D.contents out) (D.contents result.1) result.0 }
         ensures cause { is_write_fault result.0 ≡ true → D.failed result.1 ≡ true }
+        ensures no_read { is_read_fault result.0 ≡ false }
     {
         let Some(rule) = Rule::of_code(code) else {
             return (Ok(Done::NoCode(code)), out);
@@ -344,27 +354,27 @@ impl<'r, 'f, 'a, R: Host + Print + Eprint + AllocGlobal> Tool<'r, 'f, 'a, R> {
         }
     }
 
-    fn run<K: Saving, D: Device + Drop>(
+    fn run<S: Saving, D: Device + Drop>(
         &self,
         words: RunWords<'a>,
         out: D,
     ) -> (Result<Done<'a>, ToolFault>, D)
-        requires begun { R.begun self.now.rt.now ≡ K.begun }
-        requires saves { (bytes : Option (List ℕ)) → R.saved self.now.rt.now (words_of words) bytes ≡ K.saves bytes }
-        requires fails { R.fails self.now.rt.now ≡ K.fails }
-        ensures does { DoesRun (R.bytes_of self.now.rt.now) (R.finds self.now.rt.now) K.begun (words_of words.entry) K.saves (D.contents out) (D.contents result.1) result.0 }
-        ensures cause { is_write_fault result.0 ≡ true → RunCanFail (R.finds self.now.rt.now) K.fails (words_of words.entry) (D.failed result.1) }
+        requires begun { R.begun self.now.rt.now ≡ S.begun }
+        requires saves { (bytes : Option (List ℕ)) → R.saved self.now.rt.now (words_of words) bytes ≡ S.saves bytes }
+        ensures does { DoesRun (R.bytes_of self.now.rt.now) (R.finds self.now.rt.now) S.begun (words_of words.entry) S.saves (D.contents out) (D.contents result.1) result.0 }
+        ensures cause { is_write_fault result.0 ≡ true → RunCanFail (R.finds self.now.rt.now) (R.fails self.now.rt.now) (words_of words.entry) (D.failed result.1) }
+        ensures unread { is_read_fault result.0 ≡ true → R.fails self.now.rt.now ≡ true }
     {
-        let (plan, script, lines) = match self.open_run(&words) {
+        let (plan, mut script, lines) = match self.open_run(&words) {
             Ok(inputs) => inputs,
             Err(fault) => return (Err(fault), out),
         };
         let (answers, events) = (words.answers, words.events);
-        let file = NewFile::<'_, R, K>::named(self.rt, words);
+        let file = NewFile::<'_, R, K, S>::named(self.rt, words);
         let ran = run_on_devices(
             self.rt.alloc(),
             &mut source_of(plan),
-            &mut Watched::new(script),
+            &mut script,
             lines,
             out,
             Named::new(file, events, self.failure),
@@ -376,25 +386,25 @@ impl<'r, 'f, 'a, R: Host + Print + Eprint + AllocGlobal> Tool<'r, 'f, 'a, R> {
     }
 
     // A request goes out in one write to a writer that keeps nothing back, and no answer is read ahead of its request.
-    fn drive<K: Saving, D: Device + Drop>(
+    fn drive<S: Saving, D: Device + Drop>(
         &self,
         words: RunWords<'a>,
         out: D,
     ) -> (Result<Done<'a>, ToolFault>, D)
-        requires begun { R.begun self.now.rt.now ≡ K.begun }
-        requires saves { (bytes : Option (List ℕ)) → R.saved self.now.rt.now (words_of words) bytes ≡ K.saves bytes }
-        requires fails { R.fails self.now.rt.now ≡ K.fails }
-        ensures does { Drives (R.bytes_of self.now.rt.now) (R.finds self.now.rt.now) K.begun (words_of words.entry) K.saves (D.contents out) (D.contents result.1) result.0 }
-        ensures cause { is_write_fault result.0 ≡ true → RunCanFail (R.finds self.now.rt.now) K.fails (words_of words.entry) (D.failed result.1) }
+        requires begun { R.begun self.now.rt.now ≡ S.begun }
+        requires saves { (bytes : Option (List ℕ)) → R.saved self.now.rt.now (words_of words) bytes ≡ S.saves bytes }
+        ensures does { Drives (R.bytes_of self.now.rt.now) (R.finds self.now.rt.now) S.begun (words_of words.entry) S.saves (D.contents out) (D.contents result.1) result.0 }
+        ensures cause { is_write_fault result.0 ≡ true → RunCanFail (R.finds self.now.rt.now) (R.fails self.now.rt.now) (words_of words.entry) (D.failed result.1) }
+        ensures unread { is_read_fault result.0 ≡ true → R.fails self.now.rt.now ≡ true }
     {
-        let (plan, script, answers) = match self.open_run(&words) {
+        let (plan, mut script, answers) = match self.open_run(&words) {
             Ok(inputs) => inputs,
             Err(fault) => return (Err(fault), out),
         };
         let events = words.events;
-        let file = NewFile::<'_, R, K>::named(self.rt, words);
+        let file = NewFile::<'_, R, K, S>::named(self.rt, words);
         let mut io = Live {
-            answers: Watched::new(answers),
+            answers,
             requests: Whole(out),
             records: Whole(Named::new(file, events, self.failure)),
         };
@@ -402,7 +412,7 @@ impl<'r, 'f, 'a, R: Host + Print + Eprint + AllocGlobal> Tool<'r, 'f, 'a, R> {
             self.rt.alloc(),
             Telling::Requests,
             &mut source_of(plan),
-            &mut Watched::new(script),
+            &mut script,
             &mut io,
         );
         let Live {
@@ -419,17 +429,19 @@ impl<'r, 'f, 'a, R: Host + Print + Eprint + AllocGlobal> Tool<'r, 'f, 'a, R> {
         words: &RunWords<'a>,
     ) -> Result<
         (
-            Option<Named<'f, 'a, R::Input>>,
-            Named<'f, 'a, R::Input>,
-            Named<'f, 'a, R::Input>,
+            Option<InputReader<'r, 'f, 'a, R, K>>,
+            InputReader<'r, 'f, 'a, R, K>,
+            InputReader<'r, 'f, 'a, R, K>,
         ),
         ToolFault,
     >
-        ensures plan { IfOk result (λ inputs. IsInputOf (λ i. R.Input.remaining i.device) (R.bytes_of self.now.rt.now words.now.plan.now) (is_sample words.now.plan.now) inputs.0) }
-        ensures script { IfOk result (λ inputs. Keeps (R.bytes_of self.now.rt.now words.now.script.now) (R.Input.remaining inputs.1.device)) }
-        ensures answers { IfOk result (λ inputs. Keeps (R.bytes_of self.now.rt.now words.now.answers.now) (R.Input.remaining inputs.2.device)) }
+        ensures plan { IfOk result (λ inputs. IsInputOf (λ i. R.left i.input) (R.bytes_of self.now.rt.now words.now.plan.now) (is_sample words.now.plan.now) inputs.0) }
+        ensures script { IfOk result (λ inputs. Keeps (R.bytes_of self.now.rt.now words.now.script.now) (R.left inputs.1.input)) }
+        ensures answers { IfOk result (λ inputs. Keeps (R.bytes_of self.now.rt.now words.now.answers.now) (R.left inputs.2.input)) }
         ensures apart { IfOk result (λ _. IsApartFrom (R.finds self.now.rt.now) (words_of words.now)) }
+        ensures fault { IfErr result (λ fault. (fault ≡ read-fault) ⊎ (fault ≡ write-fault)) }
         ensures cause { is_write_fault result ≡ true → (R.fails self.now.rt.now ≡ true) ⊎ IsTakenBy (R.finds self.now.rt.now) (words_of words.now) }
+        ensures unread { is_read_fault result ≡ true → R.fails self.now.rt.now ≡ true }
     {
         let plan = open_plan(self.rt, self.failure, words.plan)?;
         let script = open(self.rt, self.failure, words.script)?;
@@ -484,7 +496,7 @@ impl<'r, 'f, 'a, R: Host + Print + Eprint + AllocGlobal> Tool<'r, 'f, 'a, R> {
 
     // The text of `clap`: help, version, or why the words name no job.
     fn print_usage(&self, error: Error, words: &[String]) -> u8
-        ensures { EndsUsage (kind_of error) result }
+        ensures { EndsUsage (R.fails self.now.rt.now) (kind_of error) result }
     {
         if let ErrorKind::InvalidSubcommand | ErrorKind::UnknownArgument = error.kind()
             && let Some((program, rest)) = meant_by(words)
@@ -495,11 +507,11 @@ impl<'r, 'f, 'a, R: Host + Print + Eprint + AllocGlobal> Tool<'r, 'f, 'a, R> {
         if error.kind() == ErrorKind::OutOfMemory {
             return self.failure.tell(self.rt, ToolFault::Memory);
         }
-        let printed = error.print(self.rt);
         if error.use_stderr() {
+            let _ = self.rt.eprint(&error);
             return USAGE;
         }
-        match printed {
+        match self.rt.print_text(&error) {
             Ok(()) => 0,
             Err(why) => self
                 .failure
@@ -549,13 +561,14 @@ fn held_fault(fault: ToolFault) -> ToolFault
 }
 
 // Of a run that came to its end the event file is waited for.
-fn settled<'a, R: Host, K: Saving>(
+fn settled<'a, R: Host, K: Failing, S: Saving>(
     outcome: Result<Outcome, ToolFault>,
-    events: &Named<'_, '_, NewFile<'_, R, K>>,
+    events: &Named<'_, '_, NewFile<'_, R, K, S>>,
 ) -> Result<Done<'a>, ToolFault>
     ensures ended { IsSettled outcome result }
-    ensures saved { IfOk result (λ _. IsKept K.begun K.saves (bytes_in K.begun R.holds events.now.device.file)) }
+    ensures saved { IfOk result (λ _. IsKept S.begun S.saves (bytes_in S.begun R.holds events.now.device.file)) }
     ensures cause { is_write_fault result ≡ true → (is_write_fault outcome ≡ true) ⊎ (K.fails ≡ true) }
+    ensures read { is_read_fault result ≡ true → is_read_fault outcome ≡ true }
 {
     let outcome = outcome?;
     settle(events)?;

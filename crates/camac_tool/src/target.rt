@@ -4,15 +4,15 @@ ghost use Rattle.std.specs.Prelude.{◌≡◌, ◌⊎◌, ◌↔◌, ℕ, Bool, 
 ghost use Rattle.std.specs.Io.{WritesAtMost};
 ghost use Rattle.std.specs.Io.KnownBytes.{WriteAppends};
 ghost use Rattle.std.specs.Option.{ForSome};
-ghost use Rattle.camac_tool.specs.Apart.{Differs, DiffersFromOutputs, IsApart, IsApartFrom, IsNamed, IsTaken, Meets, PlanDiffers, PlanMeets, is_same, words_of};
-ghost use Rattle.camac_tool.specs.Saved.{IsKept, bytes_in};
+ghost use Rattle.camac_tool_host.specs.Apart.{Differs, DiffersFromOutputs, IsApart, IsApartFrom, IsNamed, IsTaken, Meets, PlanDiffers, PlanMeets, is_same, words_of};
+ghost use Rattle.camac_tool.specs.Devices.{IsKept, bytes_in};
 ghost use Rattle.camac_engines.specs.declared.fault.ToolFault.TheVariants.{Write as write-fault};
 ghost use Rattle.camac_word.specs.Watched.{is_write_failure};
 
-use crate::device::Device;
-use crate::failure::{Failure, Named};
-use crate::host::{FileId, Host, RunWords};
+use crate::failure::{Failing, Failure, Named};
+use crate::input::InputReader;
 use camac_engines::ToolFault;
+use camac_tool_host::{Device, FileId, Host, RunWords};
 use std::io;
 use std::io::Error;
 use std::marker::{Brand, PhantomData};
@@ -23,19 +23,19 @@ const OUTPUT: &str = "/proc/self/fd/1";
 const ERRORS: &str = "/proc/self/fd/2";
 
 /// Refuses EVENTS where it is the same file as one of the inputs, as standard output or as standard error.
-pub fn keep_apart<'a, H: Host>(
+pub fn keep_apart<'a, H: Host, K: Failing>(
     host: &H,
     failure: &Failure<'a>,
     name: &'a str,
-    plan: &Option<Named<'_, 'a, H::Input>>,
-    script: &Named<'_, 'a, H::Input>,
-    answers: &Named<'_, 'a, H::Input>,
+    plan: &Option<InputReader<'_, '_, 'a, H, K>>,
+    script: &InputReader<'_, '_, 'a, H, K>,
+    answers: &InputReader<'_, '_, 'a, H, K>,
 ) -> Result<(), ToolFault>
     ensures apart { IfOk result (λ _. IsApart (H.finds host.now) name.now (λ file.
-        PlanDiffers (λ i. H.reads host.now i.device) plan.now file × Differs (H.reads host.now script.now.device) file × Differs (H.reads host.now answers.now.device) file)) }
+        PlanDiffers (λ i. H.reads host.now i.input) plan.now file × Differs (H.reads host.now script.now.input) file × Differs (H.reads host.now answers.now.input) file)) }
     ensures fault { IfErr result (λ fault. fault ≡ write-fault) }
     ensures cause { OnErr result ((H.fails host.now ≡ true) ⊎ IsTaken (H.finds host.now) name.now (λ file.
-        PlanMeets (λ i. H.reads host.now i.device) plan.now file ⊎ (Meets (H.reads host.now script.now.device) file ⊎ Meets (H.reads host.now answers.now.device) file))) }
+        PlanMeets (λ i. H.reads host.now i.input) plan.now file ⊎ (Meets (H.reads host.now script.now.input) file ⊎ Meets (H.reads host.now answers.now.input) file))) }
 {
     let file = match host.find(name) {
         Ok(Some(file)) => file,
@@ -75,12 +75,16 @@ impl<'a> There<'_, 'a> {
         self.differs(ERRORS, host.id_at(ERRORS), "it is standard error")
     }
 
-    fn is_not<H: Host>(&self, host: &H, input: &Named<'_, 'a, H::Input>) -> Result<(), ToolFault>
-        ensures input { IfOk result (λ _. Differs (H.reads host.now input.now.device) self.now.file) }
+    fn is_not<H: Host, K: Failing>(
+        &self,
+        host: &H,
+        reader: &InputReader<'_, '_, 'a, H, K>,
+    ) -> Result<(), ToolFault>
+        ensures input { IfOk result (λ _. Differs (H.reads host.now reader.now.input) self.now.file) }
         ensures fault { IfErr result (λ fault. fault ≡ write-fault) }
-        ensures cause { OnErr result ((H.fails host.now ≡ true) ⊎ Meets (H.reads host.now input.now.device) self.now.file) }
+        ensures cause { OnErr result ((H.fails host.now ≡ true) ⊎ Meets (H.reads host.now reader.now.input) self.now.file) }
     {
-        self.differs(input.name, host.id_of(&input.device), "it is an input")
+        self.differs(reader.name, host.id_of(&reader.input), "it is an input")
     }
 
     // Refuses the other file. One of which the system says nothing may be any file.
@@ -103,45 +107,40 @@ impl<'a> There<'_, 'a> {
     }
 }
 
-/// For the proof of a run alone: what EVENTS holds when it is made, what of it is known to be on the disk, and whether a call of the host
-/// fails.
+/// For the proof of a run alone: what EVENTS holds when it is made, and what of it is known to be on the disk.
 pub trait Saving {
     ghost begun: { Option (List ℕ) };
 
     ghost saves: { Option (List ℕ) → Bool };
-
-    ghost fails: { Bool };
 }
 
 impl Saving for Brand {
     ghost begun = { None };
 
     ghost saves = { λ _. true };
-
-    ghost fails = { true };
 }
 
-/// EVENTS, which is opened at the first write to it. That is of the header, when the event file is begun.
+/// EVENTS, which is made with its first byte. That is of the header, when the event file is begun.
 #[derive(Drop)]
-pub struct NewFile<'a, H: Host, K: Saving> {
+pub struct NewFile<'a, H: Host, K: Failing, S: Saving> {
     host: &'a H,
     words: RunWords<'a>,
     file: Option<H::Events>,
     failed: bool,
-    of: PhantomData<K>,
+    of: PhantomData<(K, S)>,
     ghost apart: { ∥ IsApartFrom (H.finds host.now) (words_of words) ∥₁ },
-    ghost begun: { H.begun host.now ≡ K.begun },
-    ghost saves: { (bytes : Option (List ℕ)) → H.saved host.now (words_of words) bytes ≡ K.saves bytes },
+    ghost begun: { H.begun host.now ≡ S.begun },
+    ghost saves: { (bytes : Option (List ℕ)) → H.saved host.now (words_of words) bytes ≡ S.saves bytes },
     ghost fails: { H.fails host.now ≡ K.fails },
     ghost cause: { failed ≡ true → K.fails ≡ true },
     ghost made: { ForSome file (λ f. H.made host.now (words_of words) f ≡ true) },
 }
 
-impl<'a, H: Host, K: Saving> NewFile<'a, H, K> {
-    pub fn named(host: &'a H, words: RunWords<'a>) -> NewFile<'a, H, K>
+impl<'a, H: Host, K: Failing, S: Saving> NewFile<'a, H, K, S> {
+    pub fn named(host: &'a H, words: RunWords<'a>) -> NewFile<'a, H, K, S>
         requires apart { IsApartFrom (H.finds host.now) (words_of words) }
-        requires begun { H.begun host.now ≡ K.begun }
-        requires saves { (bytes : Option (List ℕ)) → H.saved host.now (words_of words) bytes ≡ K.saves bytes }
+        requires begun { H.begun host.now ≡ S.begun }
+        requires saves { (bytes : Option (List ℕ)) → H.saved host.now (words_of words) bytes ≡ S.saves bytes }
         requires fails { H.fails host.now ≡ K.fails }
         ensures none { result.file ≡ None }
         ensures works { result.failed ≡ false }
@@ -155,25 +154,27 @@ impl<'a, H: Host, K: Saving> NewFile<'a, H, K> {
         }
     }
 
-    // Writes to the file, which is made first where it was not opened yet.
+    // Writes to the file, which is made with its first byte.
     fn put(&mut self, bytes: &[u8]) -> io::Result<usize>
         ensures bound { WritesAtMost result bytes.now }
-        ensures bytes { WriteAppends (bytes_in K.begun H.holds self.old.file) (bytes_in K.begun H.holds self.new.file) result bytes.now }
+        ensures bytes { WriteAppends (bytes_in S.begun H.holds self.old.file) (bytes_in S.begun H.holds self.new.file) result bytes.now }
         ensures same { self.new.failed ≡ self.old.failed }
         ensures cause { is_write_failure result bytes.now ≡ true → K.fails ≡ true }
     {
         if let Some(file) = &mut self.file {
             return self.host.put(file, bytes);
         }
-        let mut file = self.host.make(&self.words)?;
-        let written = self.host.put(&mut file, bytes);
+        if bytes.is_empty() {
+            return Ok(0);
+        }
+        let (file, taken) = self.host.make(&self.words, bytes)?;
         self.file = Some(file);
-        written
+        Ok(taken)
     }
 }
 
-impl<H: Host, K: Saving> Device for NewFile<'_, H, K> {
-    ghost contents = { λ n. bytes_in K.begun H.holds n.file };
+impl<H: Host, K: Failing, S: Saving> Device for NewFile<'_, H, K, S> {
+    ghost contents = { λ n. bytes_in S.begun H.holds n.file };
 
     ghost failed = { λ n. n.failed };
 
@@ -197,11 +198,11 @@ impl<H: Host, K: Saving> Device for NewFile<'_, H, K> {
     }
 }
 
-/// Waits until EVENTS is on its disk, where it was opened.
-pub fn settle<H: Host, K: Saving>(
-    events: &Named<'_, '_, NewFile<'_, H, K>>,
+/// Waits until EVENTS is on its disk, where it was made.
+pub fn settle<H: Host, K: Failing, S: Saving>(
+    events: &Named<'_, '_, NewFile<'_, H, K, S>>,
 ) -> Result<(), ToolFault>
-    ensures saved { IfOk result (λ _. IsKept K.begun K.saves (bytes_in K.begun H.holds events.now.device.file)) }
+    ensures saved { IfOk result (λ _. IsKept S.begun S.saves (bytes_in S.begun H.holds events.now.device.file)) }
     ensures fault { IfErr result (λ fault. fault ≡ write-fault) }
     ensures cause { OnErr result (K.fails ≡ true) }
 {

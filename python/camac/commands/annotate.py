@@ -1,13 +1,12 @@
 """annotate: lists a run with each answer line beside its operation."""
 import argparse
 import itertools
-import tempfile
 from typing import Any, Iterator, Mapping, Optional, Tuple
 
 from camac.commands.running import DONE, REFUSED, add_every, add_overwrite
 from camac.contradictions import Contradictions, plan_of
 from camac.drive import STATUS, File, Refused
-from camac.output import anything, made_like, output
+from camac.output import anything, made_like, output, passing_file
 from camac.printed import parse_listing
 from camac.program import lines_of
 from camac.subcommands import response
@@ -45,9 +44,9 @@ def annotate(
     last line. The number of answer lines that were not used follows it, and what contradicts the plan, and the rates in `every`. Raises OSError if a
     file cannot be read, and Refused, UsageFault and ProgramFault as `camac.run`."""
     seen = Contradictions(response(plan, script, every, program) if every else ())
-    with open(answers, "rb") as file, tempfile.NamedTemporaryFile(suffix=".events") as events:
+    with open(answers, "rb") as file, passing_file() as events:
         numbers, services = itertools.count(1), 0
-        lines, again = itertools.tee(lines_of("run", "--", plan, script, answers, events.name, program=program))
+        lines, again = itertools.tee(lines_of("run", "--", plan, script, answers, events, program=program))
         for line, item in zip(lines, parse_listing(again)):
             if isinstance(item, RunEnd) and item.is_refused_script():
                 raise Refused(line)

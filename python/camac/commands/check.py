@@ -4,7 +4,7 @@ import sys
 from typing import Any, List
 
 from camac import judge
-from camac.commands.running import STATUS, main, refuse_pipes
+from camac.commands.running import QUICK, RAW, STATUS, main, refuse_pipes
 from camac.output import say
 from camac.program import quickest, version
 from camac.warn import looks_for_all
@@ -53,8 +53,9 @@ def do(args: argparse.Namespace) -> int:
 
 
 def parse(words: List[str]) -> argparse.Namespace:
-    parser = argparse.ArgumentParser(prog="camac-check", epilog=STATUS, formatter_class=argparse.RawDescriptionHelpFormatter)
+    parser = argparse.ArgumentParser(prog="camac-check", epilog=STATUS, formatter_class=QUICK)
     _fill(parser)
+    parser.formatter_class = RAW
     args = parser.parse_args(words)
     refuse_pipes(parser, [args.plan, *args.scripts])
     return args

@@ -7,8 +7,7 @@ A language server (Language Server Protocol 3.17) for scripts and plans. An edit
 
 
 def add_to(commands: Any) -> None:
-    plain = argparse.HelpFormatter
-    it = commands.add_parser("lsp", prog="camac-lsp", help="Serves editors over standard input and output", description=ABOUT, formatter_class=plain)
+    it = commands.add_parser("lsp", prog="camac-lsp", help="Serves editors over standard input and output", description=ABOUT)
     it.set_defaults(do=do, out=None)
 
 

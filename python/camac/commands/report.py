@@ -1,13 +1,11 @@
 """report: makes one page of all that is known of a run."""
 import argparse
-import contextlib
 from typing import Any
 
 from camac.commands.cuts import add_words, naming, read_cuts
 from camac.commands.running import STATUS, add_every, add_overwrite
-from camac.drive import Refused
 from camac.output import anything, refuse_loss, write_made
-from camac.report import report
+from camac.report import report_with_run
 from camac.runs import Inputs
 
 
@@ -31,10 +29,8 @@ def make_report(args: argparse.Namespace) -> int:
         from camac.record import refuse_foreign, write_played
 
         refuse_loss(args.write_record, anything if args.overwrite else refuse_foreign)
-    made = report(inputs, every=args.every, naming=naming(args), survey=args.survey)
+    made, run = report_with_run(inputs, None, args.every, naming(args), args.survey)
     write_made(args.out, made.text, args.overwrite)
-    if args.write_record:
-        # If plan or script is refused, the page says so.
-        with contextlib.suppress(Refused):
-            write_played(args.write_record, inputs, args.overwrite, args.survey)
+    if args.write_record and run:
+        write_played(args.write_record, inputs, run, args.overwrite, args.survey)
     return made.status

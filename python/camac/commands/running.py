@@ -1,6 +1,8 @@
 """How a command runs, from its words to its status; and options of several commands."""
 import argparse
 import contextlib
+import functools
+import gc
 import io
 import os
 import re
@@ -16,6 +18,9 @@ from camac.texts import is_standard_input
 DONE, REFUSED, USAGE, FAULT = 0, 1, 2, 3
 STATUS = """\
 Status: 0 done; 1 refused, a wait that was not permitted, or numbers that differ; 2 usage; 3 a file or the program failed."""
+RAW = argparse.RawDescriptionHelpFormatter
+# For a parser that is made: to look for the width of the terminal, as all others do, loads much, and help alone needs it.
+QUICK = functools.partial(RAW, width=80)
 LOST = "{} is an input: it would be lost"
 GREATEST_EVERY = 4_294_967_295
 # Reads the words of a command line, and ends with status 2 if they are not understood.
@@ -36,6 +41,8 @@ def main(parse: Parse, words: Optional[List[str]] = None) -> int:
     signal that says so."""
     if sys.stderr is None:
         sys.stderr = open(os.devnull, "w", encoding="utf-8")
+    # What a command makes it needs to its end: to look for what may go takes a tenth of a short one.
+    gc.set_threshold(100_000)
     status = FAULT
     try:
         return _run(parse, sys.argv[1:] if words is None else words)
@@ -49,6 +56,8 @@ def main(parse: Parse, words: Optional[List[str]] = None) -> int:
         text = one_line(fault)
     except OSError as fault:
         text = reason(fault)
+    finally:
+        gc.freeze()
     with contextlib.suppress(OSError):
         print(f"camac: {text}", file=sys.stderr)
     return status

@@ -1,6 +1,5 @@
 """survey: asks the crates what they accept, and compares that with the plan."""
 import argparse
-import hashlib
 import itertools
 import os
 import re
@@ -17,7 +16,7 @@ from camac.surveys.asking import Asked, declared_plan
 from camac.surveys.driver_test import RULES, Finding, Kept, test_driver
 from camac.surveys.summary import refuse_foreign, summary
 from camac.surveys.wiring import wires
-from camac.texts import plan_text
+from camac.texts import hashed, plan_text
 from camac.values import Plan
 
 ABOUT = """\
@@ -68,9 +67,8 @@ def do(args: argparse.Namespace) -> int:
     _print([*_table(surveyed), *_ends(surveyed)])
     _keep(args.keep, surveyed.scripts())
     if args.out:
-        sha256 = hashlib.sha256(plan_text(args.plan)).hexdigest()
         with output(args.out, rule) as out:
-            out.write(summary(surveyed, sha256).text())
+            out.write(summary(surveyed, hashed(plan_text(args.plan)).hexdigest()).text())
     return REFUSED if surveyed.differences() else DONE
 
 

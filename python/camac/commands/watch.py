@@ -33,7 +33,6 @@ def add_to(commands: Any) -> None:
 
 
 def do(args: argparse.Namespace) -> int:
-    # The server of the standard library is long to import, and no other command needs it.
     from camac.follow import read_alarm
     from camac.watch import RunList, Server, Watch
 

@@ -4,8 +4,8 @@ import enum
 import re
 from typing import NamedTuple, Optional
 
-from camac.edits import Edit
 from camac.loops.trials import Stopped
+from camac.texts import Edit
 from camac.tree import Assign, Expression, If, Name, Number, Operation, Part, Plain, Statement, While, names_in, parts_of
 
 MOST, WORD = 4_294_967_295, 16_777_216

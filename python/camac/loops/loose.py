@@ -3,11 +3,11 @@ cost less if it were judged turn by turn."""
 from typing import Iterator, List, Optional, Sequence, Tuple
 
 from camac.drive import File
-from camac.edits import Edit, edited
 from camac.loops.proposals import put_before_block
 from camac.loops.search import least_ranges
 from camac.printed import read_headings
 from camac.program import accepts, verdict
+from camac.texts import Edit, edited
 from camac.tree import Body, For, If, Keep, Loop, Transfer, While, all_in
 from camac.warn.codes import Code, Warned
 

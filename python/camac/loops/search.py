@@ -6,16 +6,14 @@ from collections import Counter
 from typing import AbstractSet, Callable, Container, Dict, Iterable, List, Optional, Sequence, Set, Tuple, Union
 
 from camac.drive import File, Refused
-from camac.edits import edited
-from camac.headings import least_headings
 from camac.loops.changes import MOST, MOST_STEP, WORD, Changes, Kind, grows
-from camac.loops.proposals import Cause, Found, Proposal, Proposals, Remaining
+from camac.loops.proposals import Cause, Found, Proposal, Proposals, Remaining, least_headings
 from camac.loops.trials import BOUNDS, CHECK, Stopped, Trials
 from camac.output import read_original
 from camac.printed import read_headings
 from camac.program import verdict
 from camac.reader import read_script
-from camac.texts import GREATEST_TEXT
+from camac.texts import GREATEST_TEXT, edited
 from camac.tree import Assign, Body, For, Loop, Number, Range, Statement, parts_of
 
 # The most calls of the checker; the last ones are for headings.

@@ -2,9 +2,9 @@
 from typing import Dict, List, NamedTuple, Optional, Sequence, Tuple, Union
 
 from camac.drive import File
-from camac.edits import Edit, edited
-from camac.printed import read_explanation
+from camac.explanations import read_explanation
 from camac.program import Verdict, verdict
+from camac.texts import Edit, edited
 from camac.tree import Body, Statement
 
 # With BOUNDS headings are not looked at. Both say more of a refusal than its rule.

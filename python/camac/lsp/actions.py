@@ -1,14 +1,15 @@
 """Fixes of faults: changes of a text, each with its title."""
 from typing import Iterator, List, NamedTuple, Optional, Sequence, Tuple
 
-from camac.edits import Edit
-from camac.headings import least_headings
+from camac.explanations import NEAR, read_allowed
 from camac.judge import OF_HEADINGS
+from camac.loops.proposals import least_headings
 from camac.loops.search import propose
 from camac.lsp.refusals import Placed, refusals
 from camac.lsp.workspace import Judged
 from camac.names import NAMES
-from camac.printed import NEAR, read_allowed, read_headings
+from camac.printed import read_headings
+from camac.texts import Edit
 from camac.tokens import tokens_of
 from camac.warn import Code, Warned
 

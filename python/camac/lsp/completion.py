@@ -4,10 +4,12 @@ from typing import Any, Callable, Dict, FrozenSet, Iterator, List, NamedTuple, S
 
 from camac import functions
 from camac.drive import Refused
-from camac.language import DECLARATIONS, EACH, OF_FUNCTIONS, STATEMENTS, WORDS, Kind
+from camac.explanations import NOT_DECLARED, read_expected
+from camac.kinds import Kind
+from camac.language import DECLARATIONS, EACH, OF_FUNCTIONS, STATEMENTS, WORDS
 from camac.lsp.hover import addresses, declared_at, function_text
 from camac.lsp.workspace import Judged
-from camac.printed import NOT_DECLARED, is_refused, read_expected
+from camac.printed import is_refused
 from camac.tokens import tokens_of
 from camac.values import Address, Declaration
 

@@ -2,10 +2,10 @@
 import functools
 from typing import TYPE_CHECKING, Any, Dict, List, Optional
 
+from camac.explanations import read_explanation
 from camac.lsp.documents import Range, Text
 from camac.lsp.refusals import refusals
 from camac.lsp.workspace import Judge, Judged
-from camac.printed import read_explanation
 from camac.program import advice_on
 
 if TYPE_CHECKING:

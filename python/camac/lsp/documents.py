@@ -5,7 +5,7 @@ from functools import cached_property
 from itertools import accumulate
 from typing import Any, Dict, Iterable, List, Sequence, Tuple
 
-from camac.edits import Edit
+from camac.texts import Edit
 
 Position = Dict[str, int]
 Range = Dict[str, Position]

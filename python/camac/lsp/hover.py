@@ -6,7 +6,8 @@ import re
 from typing import Iterator, List, Optional, Tuple
 
 from camac import functions
-from camac.language import OF_FUNCTIONS, Kind
+from camac.kinds import Kind
+from camac.language import OF_FUNCTIONS
 from camac.layout import begins
 from camac.lsp.workspace import Choice, Judged
 from camac.names import Mention

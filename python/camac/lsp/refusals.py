@@ -2,9 +2,9 @@
 import re
 from typing import Iterator, List, NamedTuple, Tuple
 
+from camac.explanations import read_explanations
 from camac.layout import begins
 from camac.lsp.workspace import Judged
-from camac.printed import read_explanations
 from camac.tokens import tokens_of
 
 SIGN = re.compile(rb"[\x00-\xff][\x80-\xbf]*")

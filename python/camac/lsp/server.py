@@ -7,10 +7,10 @@ import time
 from typing import TYPE_CHECKING, Any, BinaryIO, Callable, Dict, List, Optional, Sequence, Set, Tuple, Union
 
 from camac import native
-from camac.edits import Edit
 from camac.layout import LayoutFault, formatted
 from camac.lsp import diagnostics
 from camac.lsp.documents import Text
+from camac.texts import Edit
 from camac.lsp.protocol import (
     FAILED, INFO, INTERNAL_ERROR, INVALID_PARAMS, INVALID_REQUEST, METHOD_NOT_FOUND, NOT_INITIALIZED, Connection, Ended, Message, ResponseError,
 )

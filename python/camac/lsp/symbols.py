@@ -2,13 +2,13 @@
 import re
 from typing import Any, Dict, Iterator, List, Tuple
 
-from camac.edits import Edit, edited
-from camac.language import Kind
+from camac.kinds import Kind
 from camac.lsp.documents import Text
 from camac.lsp.protocol import FAILED, ResponseError
 from camac.lsp.workspace import Judged
 from camac.names import SCRIPT, Mention, fault_of_new_name
 from camac.printed import without_name
+from camac.texts import Edit, edited
 from camac.toml_places import Value, read_places
 
 # Kinds of symbols, as the protocol numbers them.

@@ -1,5 +1,5 @@
 """The picture of a body's cost: what its bound consists of, as bars below bars, and then by line."""
-from typing import TYPE_CHECKING, Dict, List, NamedTuple, Optional, Sequence, Tuple
+from typing import TYPE_CHECKING, Dict, List, Optional, Sequence, Tuple
 
 from camac.bodies import calls_of, opened
 from camac.pictures.lines import OF_LOCK, draw_lines, parts_of
@@ -29,12 +29,11 @@ class Node:
         self.cycles, self.waits, self.slack = row.share.cycles, row.waits, row.slack
 
 
-class Scale(NamedTuple):
+class Scale:
     """How wide a cycle is, and whether the heading's number lies outside of the picture."""
 
-    cycle: float
-    whole: int
-    is_cut: bool
+    def __init__(self, cycle: float, whole: int, is_cut: bool) -> None:
+        self.cycle, self.whole, self.is_cut = cycle, whole, is_cut
 
 
 def draw_costs(body: Body, source: Sequence[str], seen: "Optional[Seen]" = None, bodies: Sequence[Body] = (), has_calls: bool = True) -> Canvas:

@@ -1,5 +1,5 @@
 """The lines of a body with what each has of the bound: a table of numbers, with heat behind the text and a bar beside it."""
-from typing import Dict, List, NamedTuple, Optional, Sequence, Tuple
+from typing import Dict, List, Optional, Sequence, Tuple
 
 from camac.pictures.svg import MONO_11, Canvas, count, cut, share
 from camac.values import Body, Row
@@ -36,11 +36,11 @@ class Part:
             self.kinds.append(row.word)
 
 
-class Line(NamedTuple):
+class Line:
     """What is on a line: its parts, the first of which has its number, and the cycles of the widest statement with its block."""
 
-    parts: List[Part]
-    whole: int
+    def __init__(self, parts: List[Part], whole: int) -> None:
+        self.parts, self.whole = parts, whole
 
     def cycles(self) -> int:
         return sum(it.cycles for it in self.parts)

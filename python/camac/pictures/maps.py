@@ -1,6 +1,6 @@
 """Maps: two columns of event words against each other, and the words of a service by their place in the event. The fuller the colour, the more."""
 import math
-from typing import Dict, NamedTuple, Sequence, Tuple
+from typing import Dict, Sequence, Tuple
 
 from camac.histograms import Pairs, Spectrum
 from camac.pictures.spectra import short
@@ -65,15 +65,12 @@ def _draw_scale(canvas: Canvas, x: int, pairs: Pairs, peak: int) -> None:
             canvas.text(x + 30, y + 11, f"{low:,}" + (f" to {after - 1:,}" if after > low + 1 else ""), "s11")
 
 
-class Grid(NamedTuple):
+class Grid:
     """How many places a column has, how many columns there are and how wide they are, how many values a row has (a power of two), and how
     many rows there are."""
 
-    per: int
-    columns: int
-    wide: float
-    size: int
-    rows: int
+    def __init__(self, per: int, columns: int, wide: float, size: int, rows: int) -> None:
+        self.per, self.columns, self.wide, self.size, self.rows = per, columns, wide, size, rows
 
     def across(self, column: int) -> int:
         return round(LEFT + column * self.wide)

@@ -1,6 +1,6 @@
 """The picture of a plan: crates, stations, types of modules, graded-L bits and waits; with a run, the cycles at each station."""
 from collections import Counter
-from typing import TYPE_CHECKING, Dict, List, NamedTuple, Optional, Sequence, Tuple
+from typing import TYPE_CHECKING, Dict, List, Optional, Sequence, Tuple
 
 from camac.functions import name
 from camac.pictures.svg import Canvas, count, cut
@@ -19,13 +19,12 @@ NORMAL_STATIONS = range(1, 24)
 CONTROLLER = 24
 
 
-class Scene(NamedTuple):
+class Scene:
     """The contents of a picture of a plan: services by bit (None if no script is known), and cycles of the run by crate and station
     (None if they are not known)."""
 
-    plan: Plan
-    services: Optional[Dict[int, Service]]
-    cycles: Optional[Dict[Tuple[int, int], int]]
+    def __init__(self, plan: Plan, services: Optional[Dict[int, Service]], cycles: Optional[Dict[Tuple[int, int], int]]) -> None:
+        self.plan, self.services, self.cycles = plan, services, cycles
 
 
 def draw_plan(plan: Plan, services: Optional[Sequence[Service]] = None, run: "Optional[Run]" = None) -> Canvas:

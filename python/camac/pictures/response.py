@@ -1,5 +1,5 @@
 """The picture of how late services can be: of each one what passes at most from its look-at-me to its end, and what a run showed."""
-from typing import TYPE_CHECKING, Dict, List, NamedTuple, Optional, Sequence, Tuple
+from typing import TYPE_CHECKING, Dict, List, Optional, Sequence, Tuple
 
 from camac.contradictions import Late
 from camac.pictures.costs import MARK, NARROWEST
@@ -14,15 +14,12 @@ LEFT, WIDE, SUM = 160, 640, 125
 NO_NUMBER = "no number (-): no bound was found for when all look-at-mes up to this bit are answered"
 
 
-class Piece(NamedTuple):
+class Piece:
     """A part of the time from a look-at-me to the end of its service: its colour, its cycles, whose they are, its term of the sum, and what
     is said of it."""
 
-    kind: str
-    cycles: int
-    name: str
-    term: str
-    tip: str
+    def __init__(self, kind: str, cycles: int, name: str, term: str, tip: str) -> None:
+        self.kind, self.cycles, self.name, self.term, self.tip = kind, cycles, name, term, tip
 
 
 def draw_response(responses: Sequence[Response], run: "Optional[Run]" = None) -> Canvas:

@@ -3,8 +3,7 @@
 The panels of a group have one axis. Each is a picture of its own, so that a page can set as many beside each other as it has room for."""
 import itertools
 import math
-import operator
-from typing import Dict, List, Mapping, NamedTuple, Optional, Sequence, Tuple, Union
+from typing import Dict, List, Mapping, Optional, Sequence, Tuple, Union
 
 from camac.functions import writes
 from camac.histograms import Bins, Series, Spectrum
@@ -31,43 +30,38 @@ LINEAR, LOGARITHMIC, BOTH, ZOOMED = "lin", "log", "both", "zoomed"
 Number = Union[int, float]
 
 
-class Shown(NamedTuple):
+class Shown:
     """What is drawn in a panel: its title in two parts of which the first may be cut, the spectrum, its colour, what it counts, a bound where
     it has one, what a number means as scale, offset and unit, the line over the run that is drawn in its place, and the spectrum of another run with what
     its counts are multiplied by."""
 
-    of: str
-    what: str
-    spectrum: Spectrum
-    kind: str
-    counts: str
-    bound: Optional[int] = None
     meaning: Tuple[Number, Number, str] = (1, 0, "")
-    series: Optional[Series] = None
-    over: Optional[Tuple[Spectrum, float]] = None
+    over: "Optional[Tuple[Spectrum, float]]" = None
+
+    def __init__(self, of: str, what: str, spectrum: Spectrum, kind: str, counts: str, bound: Optional[int] = None, series: Optional[Series] = None) -> None:
+        self.of, self.what, self.spectrum, self.kind, self.counts, self.bound, self.series = of, what, spectrum, kind, counts, bound, series
 
     def value(self, number: Number) -> Number:
         scale, offset, _ = self.meaning
         return scale * number + offset
 
 
-class View(NamedTuple):
+class View:
     """Which numbers are drawn, from the first to the last one, and in how many bins at most."""
 
-    low: int = 0
-    last: Optional[int] = None
-    most: int = BINS
+    def __init__(self, low: int = 0, last: Optional[int] = None, most: int = BINS) -> None:
+        self.low, self.last, self.most = low, last, most
 
     def bins(self, spectrum: Spectrum) -> Bins:
         end = spectrum.end if self.last is None else min(self.last + 1, spectrum.end)
         return spectrum.bins(min(self.low, end - 1), end, self.most)
 
 
-class Group(NamedTuple):
+class Group:
     """Panels with one axis, and their title."""
 
-    title: str
-    panels: List[Canvas]
+    def __init__(self, title: str, panels: List[Canvas]) -> None:
+        self.title, self.panels = title, panels
 
 
 def event_groups(run: Run, services: Sequence[Service], scale: str = LINEAR) -> List[Group]:
@@ -107,7 +101,7 @@ def command_groups(run: Run, plan: Plan, scale: str = LINEAR) -> List[Group]:
             where = f" crate {command.crate} station {command.station} A{command.sub_address}"
             name = cut(there.name if there else "controller", TITLE - len(where)) + where
             kind = "write" if writes(command.function) else "ours"
-            shown.append(Shown(name, "", sent.words, kind, f"words, F{command.function}", series=sent.series))
+            shown.append(Shown(name, "", sent.words, kind, f"words, F{command.function}", None, sent.series))
     return _grouped(shown, scale)
 
 
@@ -119,8 +113,11 @@ def channel_groups(channels: Sequence[Channel], scale: str = LINEAR, view: View 
 def of_channel(channel: Channel, over: Optional[Over] = None, series: Optional[Series] = None) -> Shown:
     """The spectrum of a channel, with that of another run, or a line in its place."""
     column, field = channel.column, channel.column.field
-    other = (over.channels[column].spectrum, over.factors.get(field.gl, 0.0)) if over and column in over.channels else None
-    return Shown(column.name, "", channel.spectrum, "ours", "words", meaning=(field.scale, field.offset, field.unit), series=series, over=other)
+    shown = Shown(column.name, "", channel.spectrum, "ours", "words", None, series)
+    shown.meaning = field.scale, field.offset, field.unit
+    if over and column in over.channels:
+        shown.over = over.channels[column].spectrum, over.factors.get(field.gl, 0.0)
+    return shown
 
 
 def _grouped(shown: Sequence[Shown], scale: str, view: View = View(), of_line: str = "") -> List[Group]:
@@ -134,7 +131,7 @@ def _grouped(shown: Sequence[Shown], scale: str, view: View = View(), of_line: s
         title = "Over the run" if is_line else f"{min(view.low, last):,} to {last:,}{of_line}"
         made.append(Group(title, [draw_panel(it, scale, view) for it in alike]))
     if len(shown) > MOST:
-        made[-1] = made[-1]._replace(title=f"{made[-1].title} ({len(shown) - MOST:,} more are not drawn)")
+        made[-1].title += f" ({len(shown) - MOST:,} more are not drawn)"
     return made
 
 
@@ -264,8 +261,8 @@ def _draw_counts(canvas: Canvas, shown: Shown, counts: Sequence[int], over: Sequ
 
     def outline(levels: Sequence[float]) -> List[str]:
         each, parts, level = _wide(canvas) / len(levels), [f"M{number(LEFT)} {FOOT}"], 0.0
-        for at, entries in enumerate(levels):
-            if (up := high(entries)) != level:
+        for at, (before, entries) in enumerate(zip([0, *levels], levels)):
+            if entries != before and (up := high(entries)) != level:
                 parts.append(f"H{number(LEFT + at * each)}V{number(FOOT - up)}")
                 level = up
         return [*parts, f"H{number(LEFT + _wide(canvas))}V{FOOT}"]
@@ -282,8 +279,10 @@ def _draw_counts(canvas: Canvas, shown: Shown, counts: Sequence[int], over: Sequ
 
 def _packed(counts: Sequence[float]) -> str:
     """Numbers as a page has them: so many zeros as one number below 0."""
-    runs = ((is_zero, [*some]) for is_zero, some in itertools.groupby(counts, operator.not_))
-    return " ".join(str(-len(some)) if is_zero else " ".join(f"{it:.6g}" if isinstance(it, float) else str(it) for it in some) for is_zero, some in runs)
+    places = [-1, *itertools.compress(itertools.count(), counts), len(counts)]
+    zeros = (str(one + 1 - at) if at > one + 1 else "" for one, at in zip(places, places[1:]))
+    others = (f"{it:.6g}" if isinstance(it, float) else str(it) for it in filter(None, counts))
+    return " ".join(filter(None, itertools.chain(*itertools.zip_longest(zeros, others))))
 
 
 def _draw_hit(canvas: Canvas, shown: Shown, bins: Bins, can_zoom: bool) -> None:

@@ -1,5 +1,5 @@
 """The picture of a run: a panel for each service over the number of the service in the run, with cycles, bounds, Q = 0 and X = 0."""
-from typing import Dict, NamedTuple, Sequence, Tuple
+from typing import Dict, Sequence, Tuple
 
 from camac.numbers import ends, total, whole
 from camac.pictures.svg import BOLD_12, LEVELS, WIDTH, Canvas, count, number, ticks
@@ -16,16 +16,12 @@ APART = 13
 FAR = 2
 
 
-class Column(NamedTuple):
+class Column:
     """What the services of one kind in a column took together, and the most of one."""
 
-    services: int
-    cycles: int
-    waits: int
-    most: int
-    no_q: int
-    no_x: int
-    locked: int
+    def __init__(self, services: int, cycles: int, waits: int, most: int, no_q: int, no_x: int, locked: int) -> None:
+        self.services, self.cycles, self.waits, self.most = services, cycles, waits, most
+        self.no_q, self.no_x, self.locked = no_q, no_x, locked
 
 
 class Axis:
@@ -45,16 +41,12 @@ class Axis:
         return max(self.edge(column + 1) - self.edge(column) - self.gap, 1)
 
 
-class Panel(NamedTuple):
+class Panel:
     """The panel of a service: its columns, where its foot is, the number of cycles at its top, pixels for a cycle, and whether the number of
     the heading lies outside."""
 
-    service: Service
-    columns: Dict[int, Column]
-    foot: float
-    top: float
-    scale: float
-    is_far: bool
+    def __init__(self, service: Service, columns: Dict[int, Column], foot: float, top: float, scale: float, is_far: bool) -> None:
+        self.service, self.columns, self.foot, self.top, self.scale, self.is_far = service, columns, foot, top, scale, is_far
 
     def at(self, cycles: float) -> float:
         return self.foot - cycles * self.scale

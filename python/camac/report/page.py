@@ -1,10 +1,10 @@
 """HTML: the frame of a page, its style, its script, and tables that can be sorted."""
-import base64
-import hashlib
-from typing import NamedTuple, Sequence
+import binascii
+from typing import Sequence
 
 from camac.pictures.spectra import Group
 from camac.pictures.svg import DARK, LIGHT, MONO, SANS, Canvas, escape, page_style, variables
+from camac.texts import hashed
 
 THEMES = (
     f":root{{{variables(LIGHT)}color-scheme:light dark}}"
@@ -201,18 +201,18 @@ Array.from(t.tBodies[0].rows).map(function(row,k){return{v:value(row),k:k,row:ro
 """
 
 
-class Column(NamedTuple):
+class Column:
     """The head of a column of a table, and whether its cells are texts."""
 
-    title: str
-    is_text: bool = False
+    def __init__(self, title: str, is_text: bool = False) -> None:
+        self.title, self.is_text = title, is_text
 
 
-class Cell(NamedTuple):
+class Cell:
     """A number by which is sorted, and what is shown."""
 
-    value: float
-    text: str
+    def __init__(self, value: float, text: str) -> None:
+        self.value, self.text = value, text
 
 
 # Texts, numbers and cells.
@@ -273,7 +273,7 @@ def header(title: str, parts: Sequence[str] = ()) -> str:
 def page(title: str, head: str, parts: Sequence[str], script: str = SORT + ZOOM, more: str = "") -> str:
     """A page that runs no script but its own. It fetches nothing, but for what `more` of its policy allows."""
     whole = SCRIPT + script
-    digest = base64.b64encode(hashlib.sha256(whole.encode()).digest()).decode()
+    digest = binascii.b2a_base64(hashed(whole.encode()).digest(), newline=False).decode()
     policy = f"default-src 'none';style-src 'unsafe-inline';script-src 'sha256-{digest}'{more}"
     return (
         '<!DOCTYPE html>\n<html lang="en"><head><meta charset="utf-8">'

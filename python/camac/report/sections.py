@@ -1,7 +1,6 @@
 """The parts of the page of a run, from its head to the checks."""
-import hashlib
 import os
-from typing import Dict, List, NamedTuple, Optional, Sequence, Tuple, Union
+from typing import Dict, List, Optional, Sequence, Tuple, Union
 
 from camac import functions
 from camac.drive import File
@@ -18,6 +17,7 @@ from camac.pictures.svg import count, escape, share
 from camac.pictures.timeline import draw_run
 from camac.report.page import KEYS, Cell, Column, Row, figure, folded, header, panels, region_table, table
 from camac.runs import LONGEST, REASONS, UNFINISHED, Inputs, Run, Served
+from camac.texts import hashed, source_lines
 
 SECTIONS = {
     "bounds": "Bounds", "late": "How late", "cost": "Cost by line", "plan": "Plan", "run": "Run", "histograms": "Histograms", "services": "Services",
@@ -36,18 +36,15 @@ NO_DEMAND_WAS_SERVED = (
 )
 
 
-class Facts(NamedTuple):
+class Facts:
     """The contents of the page. `bodies` and `responses` are None if the program does not print the cost of lines, or how late services
     can be."""
 
-    inputs: Inputs
-    version: str
-    plan: Plan
-    services: List[Service]
-    source: List[str]
-    bodies: Optional[List[Body]]
-    responses: Optional[List[Response]]
-    run: Run
+    def __init__(
+        self, inputs: Inputs, version: str, plan: Plan, services: List[Service], bodies: Optional[List[Body]], responses: Optional[List[Response]], run: Run
+    ) -> None:
+        self.inputs, self.version, self.plan, self.services, self.bodies, self.responses, self.run = inputs, version, plan, services, bodies, responses, run
+        self.source = source_lines(inputs.script)
 
     def service(self, gl: int) -> Optional[Service]:
         return next((it for it in self.services if it.gl == gl), None)
@@ -74,11 +71,11 @@ def _digest(path: File) -> str:
     """The first 12 digits of the SHA-256 of a file."""
     if os.fspath(path) in ("@sample", b"@sample"):
         return "(built in)"
-    total = hashlib.sha256()
+    total = hashed(is_long=os.path.getsize(path) > 1 << 20)
     with open(path, "rb") as file:
         for piece in iter(lambda: file.read(1 << 20), b""):
             total.update(piece)
-    return total.hexdigest()[:12]
+    return str(total.hexdigest()[:12])
 
 
 def tiles(facts: Facts) -> str:
@@ -97,6 +94,8 @@ def tiles(facts: Facts) -> str:
         shown.append((total(run.of_transfers), "Q = 0 of transfers", ""))
     if run.idle:
         shown.append((run.idle, "demands without a service", ""))
+    if run.left:
+        shown.append((run.left, "services that were abandoned", "bad"))
     drawn = (f'<div class="tile"><b class="{kind}">{value:,}</b><span>{word}</span></div>' for value, word, kind in shown)
     return f'<div class="tiles">{"".join(drawn)}</div>'
 

@@ -1,12 +1,11 @@
 """The scripts that a survey asks a branch by: plans of its own, texts that the program judges, and what the branch answered."""
-import os
-import tempfile
 import time
 from typing import Iterable, List, NamedTuple, Optional, Tuple
 
 from camac.drive import Answer, Branch, File, ProgramFault, add_note
 from camac.functions import reads
 from camac.mock import Operation, Recorder
+from camac.output import passing_file
 from camac.subcommands import call, plan as read_plan
 from camac.values import Command, Ending, Plan
 
@@ -108,11 +107,7 @@ def ask(script: Script, branch: Branch, program: Optional[File] = None, timeout:
     """Has the branch make a script, if the program accepts it. What the branch raises, and a wait that the plan does not permit, is the fault of what
     is returned. Raises what `camac.call` raises."""
     watched = _Watched(branch)
-    with tempfile.TemporaryDirectory(prefix="camac-") as room:
-        plan, text = os.path.join(room, "plan.toml"), os.path.join(room, "asked.script")
-        for name, content in ((plan, script.plan), (text, script.text)):
-            with open(name, "w", encoding="utf-8", newline="\n") as file:
-                file.write(content)
+    with passing_file(script.plan.encode()) as plan, passing_file(script.text.encode()) as text:
         try:
             end = call(plan, text, SERVICE, watched, program=program, timeout=timeout)
             fault = "" if end.how is Ending.ENDED else f"a wait of {end.wait} cycles, which the plan does not permit"

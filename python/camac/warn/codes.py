@@ -2,7 +2,7 @@
 import enum
 from typing import NamedTuple, Tuple
 
-from camac.edits import Edit
+from camac.texts import Edit
 
 
 class Code(enum.Enum):

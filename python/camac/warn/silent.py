@@ -4,12 +4,11 @@ from collections import Counter
 from typing import Dict, Iterable, Iterator, List, NamedTuple, Optional, Sequence, Set, Tuple
 
 from camac.drive import File
-from camac.edits import Edit, edited
-from camac.language import PARAMETER, REGISTER, Kind
+from camac.kinds import PARAMETER, REGISTER, Kind
 from camac.printed import CYCLES, PLACE_OF, TIMES, WORD_OF, Words, read_known, read_rows
 from camac.program import verdict
 from camac.subcommands import plan as ask_plan
-from camac.texts import GREATEST_TEXT, plan_text
+from camac.texts import GREATEST_TEXT, Edit, edited, plan_text
 from camac.tokens import tokens_of
 from camac.tree import (
     FLAGS, OPERATIONS, Assign, Body, Cycle, Expression, For, If, Loop, Name, Number, Operation, Range, Script, SetRegister, Statement, Transfer, names_in,

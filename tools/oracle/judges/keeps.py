@@ -15,11 +15,11 @@ from oracle.reader.plan import sample_plan
 from oracle.reader.refusals import Refused
 
 sys.path.append(str(pathlib.Path(__file__).resolve().parents[3] / "python"))
-from camac.edits import edited
 from camac.loops.changes import Kind
 from camac.loops.proposals import put_before_block
 from camac.loops.search import propose, turn_by_turn
 from camac.reader import read_script as read_tree
+from camac.texts import edited
 
 PLAN = sample_plan()
 KEEP = re.compile(rb" keep ([^{]*) \{")

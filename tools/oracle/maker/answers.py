@@ -6,11 +6,11 @@ from random import Random
 from typing import Callable, List, Optional, Tuple
 
 from oracle.maker.changes import change
-from oracle.reader.answers import Answer, Answers
+from oracle.reader.answers import Abandoned, Answer, Answers
 from oracle.reader.branch import Overrun
 from oracle.reader.checker import Checker
-from oracle.reader.linking import gl_of
 from oracle.reader.meaning import Run, Short
+from oracle.reader.plan import gl_of
 
 WORDS = (0, 1, 0xFFF, 0x1000, 0x123FFF, 0xFFFF, 0x10000, 0x800000, 0xFFFFFF)
 # A field: its size in bytes and its number.
@@ -42,13 +42,16 @@ class Made(Answers):
         gl = sum(1 << bit - 1 for bit in self.served if self.random.random() < 0.6)
         return self.random.choice((gl, gl, gl, gl | self.random.randrange(2**24), self.random.randrange(2**24), 2**24 - 1))
 
-    def next(self) -> Optional[Answer]:
+    def next(self, in_service: bool = False) -> Optional[Answer]:
         request = self.run.requests[-1].split()
         self.demands -= request[0] == "demand"
         if not self.left or self.demands < 0:
             return None
         self.left -= 1
         chance = self.random.random
+        if in_service and chance() < 0.01:
+            self.lines.append("abandon")
+            raise Abandoned
         word = self.random.choice((self.random.choice(WORDS), self.random.randrange(2**24)))
         answer = Answer(int(chance() < 0.85), int(chance() < self.q), word, self.wait(request), self.gl())
         self.lines.append(answer.line())
@@ -76,7 +79,7 @@ def break_line(random: Random, text: bytes) -> bytes:
     ways: List[Callable[[bytes], bytes]] = [
         lambda it: it + b"\r", lambda it: it + b" ", lambda it: b"", lambda it: it.upper(), lambda it: it.replace(b" ", b"\t", 1),
         lambda it: it[:-1], lambda it: it + b"0", lambda it: b" " + it, lambda it: it[:4] + b"g" + it[5:], lambda it: b"2" + it[1:],
-        lambda it: it[:2] + b"f" + it[3:], lambda it: it[:11] + b"F" + it[12:], lambda it: it[:10] + b"0" + it[11:],
+        lambda it: b"abandon", lambda it: it[:2] + b"f" + it[3:], lambda it: it[:11] + b"F" + it[12:], lambda it: it[:10] + b"0" + it[11:],
         lambda it: change(random, it),
     ]
     lines[at] = random.choice(ways)(lines[at])

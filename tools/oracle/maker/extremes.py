@@ -32,7 +32,7 @@ class Given(Answers):
         super().__init__(b"")
         self.random, self.kind, self.left, self.risen = random, kind, ANSWERS, 0
 
-    def next(self) -> Optional[Answer]:
+    def next(self, in_service: bool = False) -> Optional[Answer]:
         self.left -= 1
         if self.left < 0:
             return None

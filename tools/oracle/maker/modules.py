@@ -31,7 +31,7 @@ class Modules(Answers):
         # When a module raises its next look-at-me. A module that is not in it waits for a good moment.
         self.due: Dict[str, int] = {}
 
-    def next(self) -> Optional[Answer]:
+    def next(self, in_service: bool = False) -> Optional[Answer]:
         request = self.run.requests[-1].split()
         if len(self.lines) == ANSWERS:
             return None

@@ -29,6 +29,10 @@ def column_of(line: bytes) -> int:
     return next((it for it, byte in enumerate(line[:SIZE]) if byte not in fits[it]), min(len(line), SIZE)) + 1
 
 
+class Abandoned(Exception):
+    """The line `abandon`, in a service."""
+
+
 class Answers:
     """The answers of a text, one at a time. `limit` is how many lines a run takes; `column` is where a refused one stops being an answer."""
 
@@ -36,8 +40,8 @@ class Answers:
         self.text, self.limit = text, limit
         self.at = self.line = self.column = 0
 
-    def next(self) -> Optional[Answer]:
-        """The answer of the next line, or None at the end. A1, A2 or A4 if the line is none."""
+    def next(self, in_service: bool = False) -> Optional[Answer]:
+        """The answer of the next line, or None at the end. A1, A2 or A4 if the line is none, `Abandoned` if it leaves the service in progress."""
         if self.at >= len(self.text):
             return None
         self.line += 1
@@ -46,6 +50,8 @@ class Answers:
         end = self.text.find(b"\n", self.at)
         end = len(self.text) if end < 0 else end
         line, self.at = self.text[self.at : end], end + 1
+        if in_service and line == b"abandon":
+            raise Abandoned
         self.column = column_of(line)
         if len(line) != SIZE or any(line[it] != 32 for it in SPACES):
             raise Refused("A1", self.line)

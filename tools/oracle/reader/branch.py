@@ -40,6 +40,12 @@ class Branch:
         self.silent: Set[int] = set()
         self.locked: Set[int] = set()
 
+    def copy(self) -> "Branch":
+        """Another one as it is at a demand, where no crate is locked."""
+        other = Branch(self.plan)
+        other.inhibited, other.silent = set(self.inhibited), set(self.silent)
+        return other
+
     def permit(self, crate: int, wait: int) -> None:
         """Overrun if a wait is not permitted."""
         if wait and (crate in self.locked or wait > self.plan.waits(crate)):

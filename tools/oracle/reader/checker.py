@@ -5,10 +5,8 @@ from contextlib import contextmanager, suppress
 from typing import Dict, FrozenSet, Iterator, List, Set, Tuple
 
 from oracle.reader import loops, transfers
-from oracle.reader.costs import STEP, Cost, one_cycle
-from oracle.reader.linking import gl_of, link_faults
-from oracle.reader.plan import Plan, kind_of
-from oracle.reader.ranges import Address, Known, Range, State, is_inside, join, test_values, value_of, where, widths_of
+from oracle.reader.plan import Plan, gl_of, kind_of, link_faults
+from oracle.reader.ranges import STEP, Address, Cost, Known, Range, State, is_inside, join, one_cycle, test_values, value_of, where, widths_of
 from oracle.reader.refusals import MOST, Refused
 from oracle.reader.tree import (
     Assign, Body, Call, CrateCall, Cycle, Expression, For, ForEach, If, LamCall, Lock, Put, Scan, Script, SetRegister, Statement, While,

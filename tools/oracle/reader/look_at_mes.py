@@ -5,10 +5,9 @@ import functools
 from typing import Callable, Dict, Iterator, List, NamedTuple, Set, Tuple, Union
 
 from oracle.reader.checker import LAM_FUNCTIONS, Checker
-from oracle.reader.linking import gl_of
 from oracle.reader.loops import everything
 from oracle.reader.meaning import CRATE_COMMANDS
-from oracle.reader.plan import CONTROLLER, Plan
+from oracle.reader.plan import CONTROLLER, Plan, gl_of
 from oracle.reader.ranges import Address, hull, numbers, value_of
 from oracle.reader.tree import Block, Body, Call, CrateCall, Cycle, For, ForEach, If, Lam, LamCall, Lock, Scan, Statement, While
 

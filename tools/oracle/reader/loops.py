@@ -3,8 +3,7 @@ from __future__ import annotations
 
 from typing import TYPE_CHECKING, Iterator, List, Optional, Set, Tuple
 
-from oracle.reader.costs import STEP, Cost
-from oracle.reader.ranges import Known, Range, State, hull, is_inside, test_values, value_of, where
+from oracle.reader.ranges import STEP, Cost, Known, Range, State, hull, is_inside, test_values, value_of, where
 from oracle.reader.refusals import MOST, Refused
 from oracle.reader.tree import Assign, Block, Body, Cycle, For, ForEach, If, Keep, Lock, Operation, Scan, SetRegister, Statement, While
 

@@ -3,11 +3,10 @@ from __future__ import annotations
 
 from typing import Callable, Dict, List, Tuple
 
-from oracle.reader.answers import Answer, Answers
+from oracle.reader.answers import Abandoned, Answer, Answers
 from oracle.reader.branch import Branch, Command, Overrun
 from oracle.reader.event_file import HEADER, Event, record_of
-from oracle.reader.linking import gl_of
-from oracle.reader.plan import Plan, kind_of
+from oracle.reader.plan import Plan, gl_of, kind_of
 from oracle.reader.refusals import Refused
 from oracle.reader.tree import (
     Assign, Block, Body, Call, Condition, CrateCall, Cycle, Expression, For, ForEach, If, Lam, LamCall, Lock, Put, Scan, Script, SetRegister,
@@ -81,7 +80,12 @@ class Run:
             called = [bit for bit in sorted(self.services) if pattern >> bit - 1 & 1]
             self.listing.append(f"demand {pattern:06x} {self.services[called[0]].name if called else '-'}")
             if called:
-                self.serve(called[0], self.services[called[0]])
+                kept = self.branch.copy()
+                try:
+                    self.serve(called[0], self.services[called[0]])
+                except Abandoned:
+                    self.branch = kept
+                    self.listing.append(f"abandoned service {self.services[called[0]].name}")
 
     def serve(self, bit: int, service: Body) -> None:
         self.begin()
@@ -90,7 +94,7 @@ class Run:
         self.events += record_of(self.count, Event(bit, self.cost, min(self.missed, MOST_MISSED), self.words))
 
     def answer(self) -> Answer:
-        answer = self.answers.next()
+        answer = self.answers.next(in_service=True)
         if answer is None:
             raise Short
         return answer

@@ -1,5 +1,5 @@
 """What the checker knows at a place: ranges of variables, addresses of registers, locks; expressions and conditions over it; what the plan says of
-addresses: E1, E2 and the widths."""
+addresses: E1, E2 and the widths; what statements cost."""
 from __future__ import annotations
 
 from typing import Dict, FrozenSet, Iterator, NamedTuple, Optional, Tuple
@@ -197,3 +197,27 @@ class Window(NamedTuple):
                 if plan.width(self.crate, station, sub, function) is None:
                     raise Refused("E2", line)
 
+
+class Cost(NamedTuple):
+    cycles: int = 0
+    words: int = 0
+    steps: int = 0
+
+    def plus(self, other: "Cost") -> "Cost":
+        return Cost(*(a + b for a, b in zip(self, other)))
+
+    def times(self, count: int) -> "Cost":
+        return Cost(*(count * it for it in self))
+
+    def greater(self, other: "Cost") -> "Cost":
+        """The greater of each number."""
+        return Cost(*(max(a, b) for a, b in zip(self, other)))
+
+
+STEP = Cost(steps=1)
+
+
+def one_cycle(plan: Plan, crates: Range, locked: FrozenSet[int]) -> int:
+    """What a cycle may cost: 1 and the greatest waits of these crates, of which a locked one has none."""
+    waits = [it.waits for number, it in plan.crates.items() if crates[0] <= number <= crates[1] and number not in locked]
+    return 1 + max([0, *waits])

@@ -5,8 +5,8 @@ import functools
 from typing import Dict, List, NamedTuple, Optional, Tuple
 
 from oracle.reader.checker import Checker
-from oracle.reader.linking import gl_of
 from oracle.reader.look_at_mes import Looks, Unkept
+from oracle.reader.plan import gl_of
 from oracle.reader.refusals import MOST
 
 ROUNDS = 65_535

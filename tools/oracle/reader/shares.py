@@ -4,9 +4,8 @@ from __future__ import annotations
 from typing import Iterator, List, NamedTuple, Tuple
 
 from oracle.reader.checker import Checker, Judged
-from oracle.reader.costs import STEP, Cost
-from oracle.reader.linking import gl_of
-from oracle.reader.ranges import Range, State, hull, value_of
+from oracle.reader.plan import gl_of
+from oracle.reader.ranges import STEP, Cost, Range, State, hull, value_of
 from oracle.reader.tree import (
     Assign, Block, Body, Call, CrateCall, Cycle, For, ForEach, If, LamCall, Lock, Put, Scan, SetRegister, Statement, While,
 )

@@ -3,9 +3,8 @@ from __future__ import annotations
 
 from typing import TYPE_CHECKING, Tuple
 
-from oracle.reader.costs import Cost, one_cycle
 from oracle.reader.plan import kind_of
-from oracle.reader.ranges import SUB_ADDRESSES, Known, State, Window, value_of, widths_of
+from oracle.reader.ranges import SUB_ADDRESSES, Cost, Known, State, Window, one_cycle, value_of, widths_of
 from oracle.reader.refusals import Refused
 from oracle.reader.tree import Block, Scan
 

@@ -6,7 +6,7 @@ ghost use Rattle.camac_branch.specs.Crates.{branch_of, is_permitted};
 ghost use Rattle.camac_branch.specs.Plan.{crate_waits};
 ghost use Rattle.camac_lang.specs.Tree.{done};
 ghost use Rattle.camac_model.specs.State.{missed_with};
-ghost use Rattle.camac_machine.specs.MachineState.{reach, stands, IsFineHere, FineThen, HasRoom, IsPending, CanFollow, asked, IsOf, StandsIn, pending_of, after_pending, Makes, TakesLock, IsRefused, PausesAfter, Proceeds, Settles, Takes, Overruns};
+ghost use Rattle.camac_machine.specs.MachineState.{stands, IsFineHere, FineThen, HasRoom, IsPending, CanFollow, asked, IsOf, StandsIn, pending_of, after_pending, Makes, TakesLock, IsRefused, PausesAfter, Proceeds, Settles, Takes, Overruns};
 
 use crate::command::command;
 use crate::item::Item;
@@ -15,11 +15,13 @@ use camac_branch::{Answer, Command, CycleDone, Overrun, cycle, lock};
 use camac_lang::Stmt;
 use camac_word::{CrateNo, Word24};
 
-// One more cycle with this X; the number stays at 65,535 (own).
-fn missed_with(x: bool, missed: u16) -> u16
-    ensures { result ≡ missed_with x missed }
+// Counts a cycle with this X; the number stays at 65,535 (own). Most cycles have X, and write nothing.
+fn add_missed(x: bool, missed: &mut u16)
+    ensures { missed.new ≡ missed_with x missed.old }
 {
-    if x { missed } else { missed.saturating_add(1) }
+    if !x {
+        *missed = missed.saturating_add(1);
+    }
 }
 
 // Keeps so many bits of a word in a variable.
@@ -53,7 +55,7 @@ impl<'a, const V: usize, const DEPTH: usize, const CAP: usize> Machine<'a, V, DE
         self.q = done.reply.q;
         self.x = done.reply.x;
         self.cost += 1 + u32::from(done.wait);
-        self.missed = missed_with(done.reply.x, self.missed);
+        add_missed(done.reply.x, &mut self.missed);
         Ok(done)
     }
 
@@ -181,7 +183,7 @@ impl<'a, const V: usize, const DEPTH: usize, const CAP: usize> Machine<'a, V, DE
             Pending::Lock { crate_no, body } => self.take_lock(*crate_no, body, answer.wait, item),
             Pending::Transfer(transfer) => match self.make(transfer.command, answer) {
                 Ok(done) => {
-                    self.put_read(transfer.table, &done);
+                    self.put_read(transfer.table, transfer.kept_width, &done);
                     self.steps += 1;
                     *item = Item::Cycle(done);
                     None
@@ -198,7 +200,7 @@ impl<'a, const V: usize, const DEPTH: usize, const CAP: usize> Machine<'a, V, DE
     pub fn go_further(&mut self, pending: &mut Option<Pending<'a>>, most: u32)
         requires room { HasRoom self.old }
         requires quiet { self.old.unlocks.items ≡ [] }
-        requires follows { IfSome pending.old (CanFollow (reach self.old).variables) }
+        requires follows { IfSome pending.old (CanFollow self.old) }
         requires begun { IfSome (asked pending.old) (StandsIn self.old) }
         requires fine { FineThen self.old (λ c. after_pending c pending.old) }
         ensures settles { Settles self.old (λ c. after_pending c pending.old) pending.new self.new }
@@ -215,7 +217,7 @@ impl<'a, const V: usize, const DEPTH: usize, const CAP: usize> Machine<'a, V, DE
     #[inline(always)]
     fn follow_transfer(&mut self, pending: &mut Option<Pending<'a>>) -> bool
         requires room { HasRoom self.old }
-        requires follows { IfSome pending.old (CanFollow (reach self.old).variables) }
+        requires follows { IfSome pending.old (CanFollow self.old) }
         requires fine { FineThen self.old (λ c. after_pending c pending.old) }
         ensures cycle { result ≡ true → IsSome pending.new × Proceeds self.old (λ c. after_pending c pending.old) pending.new self.new }
         ensures tally { result ≡ false → Proceeds self.old (λ c. after_pending c pending.old) None self.new }
@@ -223,19 +225,14 @@ impl<'a, const V: usize, const DEPTH: usize, const CAP: usize> Machine<'a, V, DE
     {
         match pending {
             Some(Pending::Transfer(transfer)) => {
+                self.checked.plan().allows_commands();
+                let stays = transfer.course.stays();
                 transfer.course.take(self.q);
-                match self.next_cycle(
-                    &transfer.course,
-                    transfer.command.f,
-                    transfer.table,
-                    transfer.tally,
-                ) {
-                    Some(command) => {
-                        transfer.command = command;
-                        true
-                    }
-                    None => false,
+                if transfer.move_on(stays) {
+                    return true;
                 }
+                self.set_variable(transfer.tally, transfer.course.tally());
+                false
             }
             Some(Pending::Cycle(_)) => false,
             Some(Pending::Read { .. }) => false,

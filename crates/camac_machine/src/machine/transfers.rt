@@ -1,12 +1,14 @@
 // Block transfers, cycle by cycle.
 
-ghost use Rattle.std.specs.Prelude.{◌≡◌, ◌<◌, ◌≤◌, length, Some, IsSome, IfSome, is_some, option_map, ◌^◌, ◌%◌};
+ghost use Rattle.std.specs.Prelude.{◌≡◌, ◌<◌, ◌≤◌, length, [], true, None, Some, IsSome, IfSome, IfNone, is_some, ◌^◌, ◌%◌, if◌then◌else◌};
+ghost use Rattle.camac_func.specs.declared.data.DataMove.TheVariants.{In};
 ghost use Rattle.camac_branch.specs.Allowed.{width};
+ghost use Rattle.camac_esone.specs.Calls.{IsOnBranch};
 ghost use Rattle.camac_lang.specs.View.{q_repeat_of, q_stop_of, scan_of};
 ghost use Rattle.camac_model.specs.Fine.{most_turns};
 ghost use Rattle.camac_model.specs.Meaning.{sent, effect};
-ghost use Rattle.camac_machine.specs.MachineState.{context_in, free, reach, FineThen, HasRoom, Proceeds, cycle_of, transfer_at, transferred};
-ghost use Rattle.camac_machine.specs.Course.{keeps, words_sent, words_after};
+ghost use Rattle.camac_machine.specs.MachineState.{context_in, free, reach, FineThen, HasRoom, IsWidthOf, Proceeds, transferred};
+ghost use Rattle.camac_machine.specs.Course.{data_of, keeps, left_at, words_sent, words_after};
 ghost use Rattle.camac_machine.specs.Rest.{address_of};
 ghost use Rattle.camac_machine.specs.Within.{StatementFits};
 
@@ -15,10 +17,10 @@ use crate::machine::actions::bits_kept;
 use crate::machine::answers::word_of;
 use crate::machine::{Machine, Pending, TransferCycle};
 use crate::transfer::{Course, Transfer};
-use camac_branch::{Command, CycleDone};
-use camac_esone::{QRepeat, QStop, Scan};
+use camac_branch::{Command, CycleDone, Plan};
+use camac_esone::{Address, QRepeat, QStop, Scan};
 use camac_lang::{AddressScan, BlockTransfer, Expr, WordSize};
-use camac_word::{Function, Word24};
+use camac_word::Word24;
 
 // Whether an event keeps the word of a transfer's cycle: that of a read with Q=1.
 fn keeps(table: Option<&[Word24]>, q: bool) -> bool
@@ -35,6 +37,73 @@ fn cut(word: Word24, bits: u32) -> Word24
     match Word24::new(word.get() % (1 << bits)) {
         Some(word) => word,
         None => unreachable!(),
+    }
+}
+
+// The width of the command of a transfer whose cycles all have the same one.
+fn width_to_keep(plan: &Plan, course: &Course, command: &Command) -> Option<u32>
+    ensures { IfSome result (IsWidthOf plan.now command.now) }
+{
+    if course.stays() {
+        Some(bits_kept(plan, command, WordSize::Full))
+    } else {
+        None
+    }
+}
+
+// The width of a command: the kept one, or else that of the plan.
+#[inline(always)]
+fn width_of(plan: &Plan, kept: Option<u32>, command: &Command) -> u32
+    requires { IfSome kept (IsWidthOf plan.now command.now) }
+    ensures { IsWidthOf plan.now command.now result }
+{
+    match kept {
+        Some(width) => width,
+        None => bits_kept(plan, command, WordSize::Full),
+    }
+}
+
+impl TransferCycle<'_> {
+    // Makes the command that of the next cycle, if there is one. Of a transfer that stays at its address only the word is another.
+    #[inline(always)]
+    pub(crate) fn move_on(&mut self, stays: bool) -> bool
+        requires at { IfSome ((left_at self.old.course).next_address []) IsOnBranch }
+        requires data { IfSome ((left_at self.old.course).next_address []) (λ at. IsSome (data_of self.old.course (words_sent self.old.table))) }
+        requires stays { stays ≡ true → IfSome ((left_at self.old.course).next_address []) (λ at. address_of self.old.command ≡ at) }
+        requires reads { IfNone self.old.table (self.old.command.mv ≡ In) }
+        ensures next { (left_at self.old.course).next_address [] ≡ (if result then Some (address_of self.new.command) else None) }
+        ensures moves { result ≡ true → data_of self.old.course (words_sent self.old.table) ≡ Some self.new.command.mv }
+        ensures same { self.new ≡ record self.old { command = self.new.command; kept_width = self.new.kept_width } }
+        ensures function { self.new.command.f ≡ self.old.command.f }
+        ensures width { IfSome self.new.kept_width (λ w. (self.old.kept_width ≡ Some w) × (address_of self.new.command ≡ address_of self.old.command)) }
+    {
+        match self.course.next() {
+            None => false,
+            Some(at) => {
+                self.go_to(stays, at);
+                if self.table.is_some() {
+                    self.command.mv = self.course.data(self.table);
+                }
+                true
+            }
+        }
+    }
+
+    // Goes to an address, unless it stays at its own.
+    #[inline(always)]
+    fn go_to(&mut self, stays: bool, at: Address)
+        requires at { IsOnBranch at }
+        requires stays { stays ≡ true → address_of self.old.command ≡ at }
+        ensures at { address_of self.new.command ≡ at }
+        ensures moves { self.new.command.mv ≡ self.old.command.mv }
+        ensures same { self.new ≡ record self.old { command = self.new.command; kept_width = self.new.kept_width } }
+        ensures function { self.new.command.f ≡ self.old.command.f }
+        ensures width { IfSome self.new.kept_width (λ w. (self.old.kept_width ≡ Some w) × (address_of self.new.command ≡ address_of self.old.command)) }
+    {
+        if !stays {
+            self.command = command(at, self.command.f, self.command.mv);
+            self.kept_width = None;
+        }
     }
 }
 
@@ -133,15 +202,14 @@ impl<'a, const V: usize, const DEPTH: usize, const CAP: usize> Machine<'a, V, DE
         ensures goes { Proceeds self.old (λ c. transferred c transfer.now) pending.new self.new }
         ensures some { result ≡ is_some pending.new }
     {
-        match self.next_cycle(
-            &transfer.course,
-            transfer.function,
-            transfer.table,
-            transfer.tally,
-        ) {
+        let plan = self.checked.plan();
+        plan.allows_commands();
+        match transfer.course.command(transfer.function, transfer.table) {
             Some(command) => {
+                let kept_width = width_to_keep(plan, &transfer.course, &command);
                 *pending = Some(Pending::Transfer(TransferCycle {
                     command,
+                    kept_width,
                     course: transfer.course,
                     table: transfer.table,
                     tally: transfer.tally,
@@ -149,46 +217,28 @@ impl<'a, const V: usize, const DEPTH: usize, const CAP: usize> Machine<'a, V, DE
                 true
             }
             None => {
+                self.set_variable(transfer.tally, transfer.course.tally());
                 *pending = None;
                 false
             }
         }
     }
 
-    // The command of a transfer's next cycle, or none at the end, where the tally is set. A call for each answer would cost a transfer some 3%.
-    #[inline(always)]
-    pub(crate) fn next_cycle(
-        &mut self,
-        course: &Course,
-        function: Function,
-        table: Option<&[Word24]>,
-        tally: usize,
-    ) -> Option<Command>
-        requires room { HasRoom self.old }
-        requires tally { tally < (reach self.old).variables }
-        requires fine { FineThen self.old (λ c. transferred c (transfer_at course.now function table tally)) }
-        ensures function { IfSome result (λ k. k.f ≡ function) }
-        ensures goes { Proceeds self.old (λ c. transferred c (transfer_at course.now function table.entry tally)) (option_map (cycle_of (transfer_at course.now function table.entry tally)) result) self.new }
-    {
-        let plan = self.checked.plan();
-        plan.allows_commands();
-        match course.command(function, table) {
-            Some(command) => Some(command),
-            None => {
-                self.set_variable(tally, course.tally());
-                None
-            }
-        }
-    }
-
     // Puts the word of a transfer's cycle into the event, where it is a read that had Q=1, cut to its width.
-    pub(crate) fn put_read(&mut self, table: Option<&'a [Word24]>, done: &CycleDone)
+    #[inline(always)]
+    pub(crate) fn put_read(
+        &mut self,
+        table: Option<&'a [Word24]>,
+        kept: Option<u32>,
+        done: &CycleDone,
+    )
+        requires kept { IfSome kept (IsWidthOf self.old.checked.now.plan done.now.command) }
         requires room { length (words_after (words_sent table) (width self.old.checked.now.plan (address_of done.now.command) done.now.command.f) done.now.reply self.old.words) ≤ CAP }
         ensures words { self.new.words ≡ words_after (words_sent table.entry) (width self.old.checked.now.plan (address_of done.now.command) done.now.command.f) done.now.reply self.old.words }
         ensures same { self.new ≡ record self.old { words = self.new.words } }
     {
         if keeps(table, done.reply.q) {
-            let bits = bits_kept(self.checked.plan(), &done.command, WordSize::Full);
+            let bits = width_of(self.checked.plan(), kept, &done.command);
             self.words.push(cut(word_of(done), bits));
         }
     }

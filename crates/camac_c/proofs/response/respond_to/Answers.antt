@@ -9,7 +9,7 @@ use Rattle.camac_c.proofs.response.respond_to.Goals as goal
 
 pub returns-in-Told : goal.returns-in-Told
 returns-in-Told c =
-    response_told ghosts.remaining (Text c.new.result) c.engine_response.new.plan c.args.plan.now c.args.script.now (ap (λ r. Some r.now) c.new.ensures.inner)
+    response_told (λ w. ghosts.remaining (inner_of w)) (Text c.new.result) c.engine_response.new.plan c.args.plan.now c.args.script.now (ap (λ r. Some r.now) c.new.ensures.inner)
     (ghosts.remaining (inner_of c.engine_response.new.script)) (map (λ w. w.now) c.args.every.now) (map (λ w. w.now) c.args.within.now) c.in-Ok.settings
     (subst (ReadsSettings (map (λ w. w.now) c.args.every.now) (map (λ w. w.now) c.args.within.now)) c.in-Ok.is c.in_ok-settings.ensures) c.into_inner.result.items
     (ap (λ r. Some r.now) c.new-script.ensures.inner)
@@ -19,7 +19,7 @@ returns-in-Told c =
 
 pub returns : goal.returns
 returns c =
-    response_misused ghosts.remaining (Text c.new.result) c.engine_response.new.plan c.args.plan.now c.args.script.now (ap (λ r. Some r.now) c.new.ensures.inner)
+    response_misused (λ w. ghosts.remaining (inner_of w)) (Text c.new.result) c.engine_response.new.plan c.args.plan.now c.args.script.now (ap (λ r. Some r.now) c.new.ensures.inner)
     (ghosts.remaining (inner_of c.engine_response.new.script)) (map (λ w. w.now) c.args.every.now) (map (λ w. w.now) c.args.within.now) c.in-Ok.settings
     (subst (ReadsSettings (map (λ w. w.now) c.args.every.now) (map (λ w. w.now) c.args.within.now)) c.in-Ok.is c.in_ok-settings.ensures) (inner_of c.engine_response.new.out).items
     (ap (λ r. Some r.now) c.new-script.ensures.inner)

@@ -1,4 +1,4 @@
-use Rattle.std.proofs.Common.{◌≡◌, ◌∙◌, ℕ, List, length, refl, ap}
+use Rattle.std.proofs.Common.{◌∙◌, ℕ, List, length, refl, ap}
 use Rattle.camac_run.specs.declared.progress.Progress.TheVariants.{Went, Overrun}
 use Rattle.camac_run.specs.declared.progress.Used.{Used}
 use Rattle.camac_c.specs.Held.{held_after}

@@ -11,5 +11,5 @@ returns c =
     texts_told c.args.text.now c.give_answer.new.text c.give_answer.new.size c.deref.result.now
     (ap (λ v. Some v.items) c.new-out.ensures.inner ∙ ap Some c.new-2.ensures.items)
     (ap (λ v. Some v.items) (sym c.into_inner.ensures) ∙ ap Some (sym c.deref.ensures.value))
-    _ c.code_of.ensures c.give_answer.ensures ghosts.remaining (Text c.new.result) c.answer-answer.new.plan c.args.plan.now (ap (λ r. Some r.now) c.new.ensures.inner)
+    _ c.code_of.ensures c.give_answer.ensures (λ w. ghosts.remaining (inner_of w)) (Text c.new.result) c.answer-answer.new.plan c.args.plan.now (ap (λ r. Some r.now) c.new.ensures.inner)
     c.args.script.now (ghosts.remaining (inner_of c.answer-answer.new.script)) (ap (λ r. Some r.now) c.new-script.ensures.inner) c.args.ask c.answer-answer.ensures.answers

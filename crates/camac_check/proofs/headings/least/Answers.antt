@@ -4,7 +4,7 @@ use Rattle.camac_lang.specs.Headings.{unannotated}
 use Rattle.camac_lang.specs.Tree.{Script}
 use Rattle.camac_names.specs.Link.{link_fault}
 use Rattle.camac_names.specs.Linked.{LinkedScript}
-use Rattle.camac_checked.specs.declared.checked.Checked.{Checked}
+use Rattle.camac_rules.specs.declared.checked.Checked.{Checked}
 use Rattle.camac_check.specs.Least.{AreHeadings, least}
 use Rattle.camac_check.proofs.LeastFound.{is_headed, never_refused, never_unlinked, not_headed, same_bounds, unlinked}
 use Rattle.camac_check.proofs.headings.least.Goals as goal

@@ -4,7 +4,7 @@ use Rattle.camac_lang.specs.Scope.{is_well_formed}
 use Rattle.camac_lang.specs.Tree.{Script}
 use Rattle.camac_branch.specs.Plan.{Layout, IsPlan}
 use Rattle.camac_rules.specs.Accept.{accept}
-use Rattle.camac_checked.specs.Checked.{IsChecked}
+use Rattle.camac_rules.specs.Checked.{IsChecked}
 use Rattle.camac_check.proofs.Judged.{is_checked}
 use Rattle.camac_check.proofs.judge.check.Goals as goal
 

@@ -22,7 +22,8 @@ use Rattle.camac_check_rows.specs.Statements.{first_row}
 use Rattle.camac_check_rows.specs.Turns.{turned, turns_over}
 use Rattle.camac_check_rows.specs.Weights.{inside_row, once}
 use Rattle.camac_check_rows.proofs.Kept.{arms_put, block_put, no_more, then_rows}
-use Rattle.camac_check_rows.proofs.Trees.{choose_else_is, each_tree, for_tree, next_of, while_tree}
+use Rattle.camac_lang.proofs.Trees as tree
+use Rattle.camac_lang.proofs.Trees.{choose_else_is, next_of}
 use Rattle.camac_check.specs.Ends.{each_judged, loop_end}
 use Rattle.camac_check.proofs.Blocks.{rest_rule, capped_twice, block_starts, block_goes_on, block_stops, block_ends, no_turns, rest_at, turn_goes_on, turn_stops, turns_begin, turns_end}
 use Rattle.camac_check.proofs.Rows.{each_is, each_rows, each_stops, known_next, times_few, turned_at, turns_go_on, choice_rows, end_is, for_is, for_rows, if_rows, lock_rows, loop_row_is, own_row_is, rows_next, while_is, while_rows}
@@ -109,6 +110,11 @@ accept_block-returns-clause-rows t c =
     sym (no_more rows)
     ∙ ap (λ l. with_rows rows (block_rows (by_code context) around (statements_of l) c.statements.here)) (sym (drop_all c.statements.statement-index xs le))
     ∙ c.statements.invariant.rows
+
+pub accept_next-returns-in-None-clause-rows : goal.accept_next-returns-in-None-clause-rows
+accept_next-returns-in-None-clause-rows t c =
+    subst (λ k. OnOk c.pass_over.result (c.pass_over.new.rows ≡ with_rows c.args.rows.now (statement_rows (by_code c.args.context.now) c.args.around.now (statement_of c.args.statement.now) k)))
+    (sym c.in-None.is) (c.pass_over.ensures.rows c.args.around.now)
 
 pub accept_if-returns-clause-rows : goal.accept_if-returns-clause-rows
 accept_if-returns-clause-rows t c =
@@ -223,14 +229,14 @@ pub accept_reached-returns-in-For-clause-rows : goal.accept_reached-returns-in-F
 accept_reached-returns-in-For-clause-rows t c =
     let it = c.in-For in
     subst (λ s. OnOk c.accept_for.result (c.accept_for.new.rows ≡ with_rows c.args.rows.now (statement_rows (by_code c.args.place.now.context.now) c.args.place.now.around.now s (Some c.args.known))))
-    (ap (λ b. for_of it.head (statements_of b)) c.deref-in-For.ensures.value ∙ sym (ap statement_of it.is ∙ for_tree it.head it.body))
+    (ap (λ b. for_of it.head (statements_of b)) c.deref-in-For.ensures.value ∙ sym (ap statement_of it.is ∙ tree.for_is it.head it.body))
     c.accept_for.ensures.rows
 
 pub accept_reached-returns-in-While-clause-rows : goal.accept_reached-returns-in-While-clause-rows
 accept_reached-returns-in-While-clause-rows t c =
     let it = c.in-While in
     subst (λ s. OnOk c.accept_while.result (c.accept_while.new.rows ≡ with_rows c.args.rows.now (statement_rows (by_code c.args.place.now.context.now) c.args.place.now.around.now s (Some c.args.known))))
-    (ap (λ b. while_of it.head (statements_of b)) c.deref-in-While.ensures.value ∙ sym (ap statement_of it.is ∙ while_tree it.head it.body))
+    (ap (λ b. while_of it.head (statements_of b)) c.deref-in-While.ensures.value ∙ sym (ap statement_of it.is ∙ tree.while_is it.head it.body))
     c.accept_while.ensures.rows
 
 pub accept_outer-returns-in-None-clause-rows : goal.accept_outer-returns-in-None-clause-rows
@@ -376,5 +382,5 @@ pub accept_reached-returns-in-ForEach-clause-rows : goal.accept_reached-returns-
 accept_reached-returns-in-ForEach-clause-rows t c =
     let it = c.in-ForEach in
     subst (λ s. OnOk c.accept_each.result (c.accept_each.new.rows ≡ with_rows c.args.rows.now (statement_rows (by_code c.args.place.now.context.now) c.args.place.now.around.now s (Some c.args.known))))
-    (ap (λ b. for_each it.spot it.variable it.first it.last (statements_of b)) c.deref-in-ForEach.ensures.value ∙ sym (ap statement_of it.is ∙ each_tree it.spot it.variable it.first it.last it.body))
+    (ap (λ b. for_each it.spot it.variable it.first it.last (statements_of b)) c.deref-in-ForEach.ensures.value ∙ sym (ap statement_of it.is ∙ tree.each_is it.spot it.variable it.first it.last it.body))
     c.accept_each.ensures.rows

@@ -3,7 +3,8 @@ use Rattle.std.specs.Prelude.{min}
 use Rattle.camac_lang.specs.View.{statement_of, statements_of}
 use Rattle.camac_check_known.specs.Gives.{Gives}
 use Rattle.camac_rules.specs.EachLimit.{block_judged, count}
-use Rattle.camac_check_loops.proofs.Counts.{each_is, turns_cut}
+use Rattle.camac_lang.proofs.Trees.{each_is}
+use Rattle.camac_check_loops.proofs.Counts.{turns_cut}
 use Rattle.camac_check_loops.proofs.judged.+count.Goals as goal
 
 pub count-returns-in-ForEach : goal.count-returns-in-ForEach

@@ -1,6 +1,6 @@
 use Rattle.std.proofs.Common.{[], refl, option_map, string_bytes}
-use Rattle.camac_explain.specs.Advice.{rule_told}
-use Rattle.camac_explain.specs.declared.rule.Rule.TheVariants as of
+use Rattle.camac_explain_rule.specs.Advice.{rule_told}
+use Rattle.camac_explain_rule.specs.declared.rule.Rule.TheVariants as of
 use Rattle.camac_explain.proofs.Told.{explained, same_closing}
 use Rattle.camac_explain.proofs.explanation.explain_plan.Goals as goal
 

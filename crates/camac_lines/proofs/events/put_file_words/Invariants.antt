@@ -1,6 +1,5 @@
 use Rattle.std.proofs.Common.{◌≡◌, ◌≤◌, ◌+◌, ◌-◌, ◌*◌, ◌++◌, codes, drop, length}
 use Rattle.std.specs.List.{flat_map}
-use Rattle.camac_word.specs.Watched.{inner_of, has_failed}
 use Rattle.camac_word.proofs.Prefixes.{IsUnderWay}
 use Rattle.camac_lines.specs.Events.{word_text}
 use Rattle.camac_lines.proofs.events.put_file_words.Given as goal
@@ -8,8 +7,8 @@ use Rattle.camac_lines.proofs.events.put_file_words.Given as goal
 abbrev pub invariant-pieces : goal.invariant-pieces
 invariant-pieces g l =
     IsUnderWay (l.initial.line ++ flat_map word_text l.words ++ codes "\n") (l.line ++ flat_map word_text (drop l.first l.words) ++ codes "\n")
-    (g.W.Write.contents (inner_of l.initial.out)) (g.W.Write.contents (inner_of l.out))
-    × (has_failed l.out ≡ has_failed l.initial.out)
+    (g.W.TextWriter.contents l.initial.out) (g.W.TextWriter.contents l.out)
+    × (g.W.TextWriter.failed l.out ≡ g.W.TextWriter.failed l.initial.out)
     × (l.first ≤ length l.words)
     × (length l.line + 7 * l.room ≤ 255)
     × (1 ≤ l.room)

@@ -1,6 +1,5 @@
 use Rattle.std.proofs.Common.{◌≡◌, ◌++◌, List, ℕ, rules, subst}
 use Rattle.camac_event.specs.Found.{entry_in}
-use Rattle.camac_word.specs.Watched.{inner_of}
 use Rattle.camac_word.specs.Writing.{AppendsPrefix}
 use Rattle.camac_lines.specs.Events.{event_start}
 use Rattle.camac_lines.specs.Texts.{Puts}
@@ -15,7 +14,7 @@ returns-in_err-put_file_words-clause-text g c =
     let started : c.push_start.new.line ≡ c.args.line.now ++ event_start number e = search rules in
     let laid = event_line-laid number e c.args.line.now c.push_start.new.line started in
     Puts-at_err c.from_residual.result _ _ _ _ c.from_residual.ensures.0
-    (subst (λ (l : List ℕ). AppendsPrefix (g.W.Write.contents (inner_of c.args.out.now)) (g.W.Write.contents (inner_of c.put_file_words.new.out)) l) laid c.in_err-put_file_words.ensures.text)
+    (subst (λ (l : List ℕ). AppendsPrefix (g.W.TextWriter.contents c.args.out.now) (g.W.TextWriter.contents c.put_file_words.new.out) l) laid c.in_err-put_file_words.ensures.text)
 
 pub returns-clause-text : goal.returns-clause-text
 returns-clause-text g c =
@@ -23,5 +22,5 @@ returns-clause-text g c =
     let e = entry_in c.args.record.now in
     let started : c.push_start.new.line ≡ c.args.line.now ++ event_start number e = search rules in
     let laid = event_line-laid number e c.args.line.now c.push_start.new.line started in
-    subst (λ (l : List ℕ). Puts (g.W.Write.contents (inner_of c.args.out.now)) (g.W.Write.contents (inner_of c.make_room.new.out)) c.make_room.result l c.make_room.new.line) laid
+    subst (λ (l : List ℕ). Puts (g.W.TextWriter.contents c.args.out.now) (g.W.TextWriter.contents c.make_room.new.out) c.make_room.result l c.make_room.new.line) laid
     (Puts-then c.make_room.result _ _ _ _ _ _ c.in_ok-put_file_words.ensures.text c.make_room.ensures.text)

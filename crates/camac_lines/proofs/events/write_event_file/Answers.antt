@@ -33,5 +33,5 @@ returns-clause-text g c =
     let read : c.records.records.read ≡ length c.args.file.now.events = omega (arith, c.records.invariant.2, ap length none.0) in
     let held = c.records.line in
     let all = c.as_bytes.ensures ∙ c.push_last.ensures ∙ ap (λ (n : ℕ). held ++ last_line n) (c.read.ensures ∙ ap (λ (u : Unread). u.read) none.1 ∙ read) in
-    under_way_last c.write_text.result _ _ (held ++ last) _ _ _ c.records.invariant.0 (ap (λ (es : List Entry). held ++ (event_lines (c.records.records.read + 1) es ++ last)) none.0)
-    (rw all at c.write_text.ensures.text)
+    under_way_last c.put_text.result _ _ (held ++ last) _ _ _ c.records.invariant.0 (ap (λ (es : List Entry). held ++ (event_lines (c.records.records.read + 1) es ++ last)) none.0)
+    (rw all at c.put_text.ensures.text)

@@ -1,5 +1,4 @@
 use Rattle.std.proofs.Common.{◌≡◌, ◌≤◌, ◌+◌, ◌++◌, length}
-use Rattle.camac_word.specs.Watched.{inner_of, has_failed}
 use Rattle.camac_word.proofs.Prefixes.{IsUnderWay}
 use Rattle.camac_lines.specs.Events.{event_lines, last_line, events_text}
 use Rattle.camac_lines.proofs.events.write_event_file.Given as goal
@@ -7,8 +6,8 @@ use Rattle.camac_lines.proofs.events.write_event_file.Given as goal
 abbrev pub invariant-records : goal.invariant-records
 invariant-records g l =
     IsUnderWay (events_text l.file.events) (l.line ++ (event_lines (l.records.read + 1) l.records.events ++ last_line (length l.file.events)))
-    (g.W.Write.contents (inner_of l.fn.out)) (g.W.Write.contents (inner_of l.out))
-    × (has_failed l.out ≡ has_failed l.fn.out)
+    (g.W.TextWriter.contents l.fn.out) (g.W.TextWriter.contents l.out)
+    × (g.W.TextWriter.failed l.out ≡ g.W.TextWriter.failed l.fn.out)
     × (l.records.read + length l.records.events ≡ length l.file.events)
     × (length l.line ≤ 140)
 

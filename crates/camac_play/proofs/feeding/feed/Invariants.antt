@@ -10,9 +10,9 @@ use Rattle.camac_play.proofs.feeding.feed.Given as goal
 abbrev pub invariant-answers : goal.invariant-answers
 invariant-answers g l = record {
   fed : IsFed l.telling l.checked.plan l.checked.script (left_of l.telling (g.I.RunIo.state l.fn.io)) (left_in (most_answers l.telling) l.given (g.I.RunIo.state l.io).remaining)
-      (sent_in (g.I.RunIo.state l.fn.io)) (sent_in (g.I.RunIo.state l.io)) l.runner l.count;
+      (sent_in (g.I.RunIo.state l.fn.io)) (sent_in (g.I.RunIo.state l.io)) l.runner l.count l.called;
   number : l.given ≡ length fed.taken;
-  counted : l.runner.fed ≡ l.given;
+  counted : l.runner.fed ≤ l.given;
   few : l.given ≤ most_answers l.telling;
   events : l.runner.events ≡ l.count;
   fits : l.count < 2 ^ 32;

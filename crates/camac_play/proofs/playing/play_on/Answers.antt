@@ -2,7 +2,7 @@ use Rattle.std.proofs.Common.{◌∙◌, ap, Err}
 use Rattle.std.proofs.lemmas.Result.{err_from_is_err_and}
 use Rattle.camac_play.specs.Told.{ending_text}
 use Rattle.camac_play.proofs.Sending.{listing_by}
-use Rattle.camac_play.proofs.Fed.{stops_over, finishes_over}
+use Rattle.camac_play.proofs.Whole.{stops_over, finishes_over}
 use Rattle.camac_play.proofs.playing.play_on.Goals as goal
 
 pub returns-in_err-ending-clause-plays : goal.returns-in_err-ending-clause-plays

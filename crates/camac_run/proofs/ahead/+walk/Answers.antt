@@ -1,19 +1,21 @@
-use Rattle.std.proofs.Common.{◌≡◌, List, length, false, Some, map, refl, sym, ap, subst, ◌∙◌, arith}
+use Rattle.std.proofs.Common.{◌≡◌, List, [], length, false, Some, map, refl, sym, ap, subst, ◌∙◌, arith}
 use Rattle.std.proofs.lemmas.List.{length-map}
 use Rattle.std.specs.Prelude.{slice_get}
 use Rattle.camac_lang.specs.Tree.{choose, choose_else, for_each, locked}
-use Rattle.camac_lang.specs.View.{call_of, condition_of, expression_of, for_of, keep_of, procedure_of, statement_of, statements_of}
+use Rattle.camac_lang.specs.View.{action_of, call_of, condition_of, expression_of, for_of, keep_of, procedure_of, statement_of, statements_of}
+use Rattle.camac_model.specs.Behaviour.{Action}
 use Rattle.camac_model.specs.Fine.{most_turns}
 use Rattle.camac_model.specs.Meaning.{block_meaning, effect, for_state}
 use Rattle.camac_model.specs.State.{stepped}
 use Rattle.camac_machine.proofs.Lams.{procedure_at}
-use Rattle.camac_machine.proofs.Trees.{call_is, choose_else_is, choose_is, each_is, for_is, lock_is}
+use Rattle.camac_lang.specs.declared.tree.Action.TheVariants as act
+use Rattle.camac_lang.proofs.Trees.{action_is, choose_else_is, choose_is, each_is, for_is, lock_is}
 use Rattle.camac_run.specs.Sure.{Adds, chooses, context_of}
-use Rattle.camac_run.proofs.Arms.{adds_first_arm, adds_goes, adds_second_arm, goes_either}
-use Rattle.camac_run.proofs.Making.{ArePassed, adds_call, adds_for, adds_in_turn, adds_lock, adds_no_turns, adds_turns, adds_unknown, its_step, block_ends, block_goes_on, block_stops, turns_end, turns_go_on, turns_stop}
-use Rattle.camac_run.specs.declared.ahead.Coming.{Coming}
+use Rattle.camac_run.proofs.Arms.{adds_first_arm, adds_goes, adds_second_arm, goes_either, goes_known, less_both, less_same}
+use Rattle.camac_run.proofs.Making.{ArePassed, adds_call, adds_for, adds_in_turn, adds_inside, adds_lock, adds_no_release, adds_no_turns, adds_turns, adds_unknown, its_step, block_ends, block_goes_on, block_stops, turns_end, turns_go_on, turns_stop}
 use Rattle.camac_run.specs.declared.ahead.Known.{Known}
-use Rattle.camac_run.specs.declared.progress.Wanted.{Wanted}
+use Rattle.camac_run.specs.declared.list.Coming.{Coming}
+use Rattle.camac_run.specs.declared.member.Member.{Member}
 use Rattle.camac_run.proofs.ahead.+walk.Goals as goal
 
 pub add_block-returns-then-not-add_statement : goal.add_block-returns-then-not-add_statement
@@ -63,7 +65,7 @@ add_turn-returns t c =
     let plan = c.args.inside.now.checked.now.plan in
     let go = block_meaning (context_of c.args.inside.now) most_turns (statements_of c.args.body.now) in
     let inner = rw (c.within.ensures, c.note.ensures) at c.add_block.ensures in
-    subst (λ (os : List Wanted). Adds plan (λ s. go (for_state c.args.variable c.args.value s)) c.args.known.now os c.add_block.result c.add_block.new.known c.add_block.new.coming.ahead.items) (ap (λ (m : Coming). m.ahead.items) c.step.ensures)
+    subst (λ (os : List Member). Adds plan (λ s. go (for_state c.args.variable c.args.value s)) c.args.known.now os c.add_block.result c.add_block.new.known c.add_block.new.coming.ahead.items) (ap (λ (m : Coming). m.ahead.items) c.step.ensures)
     (adds_in_turn plan c.args.known.now c.add_block.new.known c.args.variable c.args.value go c.step.new.self.ahead.items c.add_block.new.coming.ahead.items c.add_block.result inner)
 
 pub add_from-returns-then-first-last : goal.add_from-returns-then-first-last
@@ -132,13 +134,25 @@ pub add_statement-returns-in-Call : goal.add_statement-returns-in-Call
 add_statement-returns-in-Call t c =
     let w = c.in-Call in
     let mid = ap (λ (m : Coming). m.ahead.items) c.step.ensures in
-    rw (w.is, call_is w.call)
+    rw (c.in-Action.is, w.is, action_is (act.Call w.call))
     (its_step (context_of c.args.inside.now) (call_of w.call) c.args.known.now c.args.known.now c.args.coming.now.ahead.items c.step.new.self.ahead.items c.add_call.new.coming.ahead.items c.add_call.result mid c.add_call.ensures)
 
 pub add_statement-returns-in_default : goal.add_statement-returns-in_default
 add_statement-returns-in_default t c =
+    let w = c.in-Action in
     let mid = ap (λ (m : Coming). m.ahead.items) c.step.ensures in
-    its_step (context_of c.args.inside.now) (statement_of c.args.statement.now) c.args.known.now c.add_simple.new.known c.args.coming.now.ahead.items c.step.new.self.ahead.items c.add_simple.new.coming.ahead.items c.add_simple.result mid c.add_simple.ensures
+    rw (w.is, action_is w.action)
+    (its_step (context_of c.args.inside.now) (action_of w.action) c.args.known.now c.add_action.new.known c.args.coming.now.ahead.items c.step.new.self.ahead.items c.add_action.new.coming.ahead.items c.add_action.result mid c.add_action.ensures.adds)
+
+pub add_statement-returns-in-While : goal.add_statement-returns-in-While
+add_statement-returns-in-While t c =
+    let plan = c.args.inside.now.checked.now.plan in
+    let its = c.forget in
+    let k = c.args.known.now in
+    let k1 = its.new.known in
+    let go : Action = λ s. effect (context_of c.args.inside.now) most_turns (statement_of c.args.statement.now) (stepped s) in
+    let none = ap (λ (m : Coming). m.ahead.items) (its.ensures.none ∙ ap (λ (m : Coming). record m { steps = its.new.coming.steps }) c.step.ensures) in
+    adds_goes plan go k k1 its.result c.args.coming.now.ahead.items its.new.coming.ahead.items none (goes_known k k1 its.ensures.less plan go k1 [] its.result (its.ensures.keeps k1 (less_same k1)))
 
 pub add_statement-returns-in-If : goal.add_statement-returns-in-If
 add_statement-returns-in-If t c =
@@ -159,12 +173,15 @@ add_if-returns-then-forget_block t c =
     let x = context_of c.args.inside.now in
     let first = block_meaning x most_turns (statements_of c.args.then.now) in
     let second = block_meaning x most_turns (statements_of c.args.otherwise.now) in
+    let its = c.forget_block-then-forget_block in
     let k = c.args.known.now in
     let k1 = c.forget_block.new.known in
-    let its = c.forget_block-then-forget_block in
+    let k2 = its.new.known in
     let none = ap (λ (m : Coming). m.ahead.items) (its.ensures.none ∙ ap (λ (m : Coming). record m { steps = its.new.coming.steps }) c.forget_block.ensures.none) in
-    adds_goes x.plan (chooses (condition_of c.args.test.now) first second) k its.new.known its.result c.args.coming.now.ahead.items its.new.coming.ahead.items none
-    (goes_either x.plan (condition_of c.args.test.now) first second k k1 its.new.known c.forget_block.ensures.less its.ensures.less (rw c.if-forget_block.true at (c.forget_block.ensures.goes x)) its.result (its.ensures.goes x))
+    let inner = rw c.if-forget_block.true at c.forget_block.ensures.keeps in
+    adds_goes x.plan (chooses (condition_of c.args.test.now) first second) k k2 its.result c.args.coming.now.ahead.items its.new.coming.ahead.items none
+    (goes_known k k2 (less_both k k1 c.forget_block.ensures.less k2 its.ensures.less) x.plan (chooses (condition_of c.args.test.now) first second) k2 [] its.result
+    (goes_either x.plan (condition_of c.args.test.now) first second k2 (inner k2 its.ensures.less) its.result (its.ensures.keeps k2 (less_same k2))))
 
 pub add_if-returns-then-inside-eq0 : goal.add_if-returns-then-inside-eq0
 add_if-returns-then-inside-eq0 t c =
@@ -190,14 +207,25 @@ add_statement-returns-in-Lock t c =
     let w = c.in-Lock in
     let mid = ap (λ (m : Coming). m.ahead.items) c.step.ensures in
     rw (w.is, lock_is w.spot w.crate_no w.body)
-    (its_step (context_of c.args.inside.now) (locked w.spot (expression_of w.crate_no) (statements_of w.body.items)) c.args.known.now c.add_lock.new.known c.args.coming.now.ahead.items c.step.new.self.ahead.items c.add_lock.new.coming.ahead.items false mid (rw c.deref-in-Lock.ensures.value at (c.add_lock.ensures w.spot)))
+    (its_step (context_of c.args.inside.now) (locked w.spot (expression_of w.crate_no) (statements_of w.body.items)) c.args.known.now c.add_lock.new.known c.args.coming.now.ahead.items c.step.new.self.ahead.items c.add_lock.new.coming.ahead.items c.add_lock.result mid (rw c.deref-in-Lock.ensures.value at (c.add_lock.ensures w.spot)))
+
+pub add_lock-returns-then-not-add_block : goal.add_lock-returns-then-not-add_block
+add_lock-returns-then-not-add_block t c =
+    let x = context_of c.args.inside.now in
+    let inner = rw c.within.ensures at c.add_block.ensures in
+    let k1 = c.add_block.new.known in
+    λ spot.
+    adds_lock x c.in-Some.c (statements_of c.args.body.now) c.args.known.now k1 k1 spot (expression_of c.args.crate_no.now) c.args.coming.now.ahead.items c.lock.new.self.ahead.items c.add_block.new.coming.ahead.items false c.in-Some.ensures c.lock.ensures
+    (adds_no_release x c.in-Some.c (statements_of c.args.body.now) c.args.known.now k1 k1 c.lock.new.self.ahead.items c.add_block.new.coming.ahead.items c.add_block.result c.if-not-add_block.true inner)
 
 pub add_lock-returns : goal.add_lock-returns
 add_lock-returns t c =
     let x = context_of c.args.inside.now in
     let inner = rw c.within.ensures at c.add_block.ensures in
+    let k1 = c.add_block.new.known in
     λ spot.
-    adds_lock x c.in-Some.c (statements_of c.args.body.now) c.args.known.now c.add_block.new.known spot (expression_of c.args.crate_no.now) c.add_block.new.known c.args.coming.now.ahead.items c.lock.new.self.ahead.items c.add_block.new.coming.ahead.items c.add_block.result c.in-Some.ensures c.lock.ensures inner
+    adds_lock x c.in-Some.c (statements_of c.args.body.now) c.args.known.now k1 k1 spot (expression_of c.args.crate_no.now) c.args.coming.now.ahead.items c.lock.new.self.ahead.items c.release.new.self.ahead.items c.release.result c.in-Some.ensures c.lock.ensures
+    (adds_inside x c.in-Some.c (statements_of c.args.body.now) c.args.known.now k1 k1 c.lock.new.self.ahead.items c.add_block.new.coming.ahead.items c.release.new.self.ahead.items c.add_block.result c.release.result c.if-not-add_block.false inner c.release.ensures)
 
 pub add_lock-returns-in_default : goal.add_lock-returns-in_default
 add_lock-returns-in_default t c =

@@ -1,15 +1,12 @@
-use Rattle.std.proofs.Common.{List, false, refl, subst, sym}
+use Rattle.std.proofs.Common.{List, false, subst, sym}
 use Rattle.camac_lang.specs.View.{statements_of}
-use Rattle.camac_model.specs.Fine.{most_turns}
-use Rattle.camac_model.specs.Meaning.{block_meaning}
 use Rattle.camac_model.specs.State.{Registers}
-use Rattle.camac_machine.specs.MachineState.{bounds_of, left_in, opens_of, context_in, variables_here}
+use Rattle.camac_machine.specs.MachineState.{opens_of, context_in, variables_here}
 use Rattle.camac_machine.specs.Rest.{rest_in}
 use Rattle.camac_machine.specs.declared.machine.Frame.{Frame}
 use Rattle.camac_run.specs.Sure.{Adds, KnowsRegisters}
 use Rattle.camac_run.specs.declared.ahead.Known.{Known}
-use Rattle.camac_run.proofs.Around.{adds_following, in_all}
-use Rattle.camac_run.proofs.Making.{leads_inside}
+use Rattle.camac_run.proofs.Around.{adds_following, leads_behind}
 use Rattle.camac_run.proofs.ahead.add_following.Goals as goal
 
 pub returns-in-Lock : goal.returns-in-Lock
@@ -17,15 +14,13 @@ returns-in-Lock g c =
     let h = c.args.machine.now in
     let k : Known = record c.see.new.self { variables = c.forget_read.new.variables } in
     let w = c.in-Lock in
-    let its = c.add_block in
-    let a =
-    in_all c.of_all-inside.result h.checked (λ x. block_meaning x most_turns (statements_of w.body.now)) k its.new.known c.args.coming.now.ahead.items its.new.coming.ahead.items its.result its.result c.of_all-inside.ensures.checked c.of_all-inside.ensures.context refl its.ensures in (
+    let a = c.add_locked.ensures in (
       a.0,
       a.1,
       λ t e v.
           let known = c.forget_read.ensures (variables_here h) t.variables c.see.ensures.variables v in
           rw w.is
-          (leads_inside (context_in h.checked.now) w.crate_no (statements_of w.body.now) k its.new.known (bounds_of h) (left_in h) a.0 its.result a.2 t
+          (leads_behind h w.crate_no (statements_of w.body.now) k a.0 a.2 t
           (record { variables_are = known; registers_are = subst (λ (rs : Registers). KnowsRegisters c.see.new.self.registers rs) (sym e) c.see.ensures.registers })),
     )
 

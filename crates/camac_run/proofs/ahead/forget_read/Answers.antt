@@ -14,7 +14,7 @@ pub returns-in-Lock : goal.returns-in-Lock
 returns-in-Lock c = λ f g k a. let same = rw c.in-Lock.is at a in subst (λ (vs : Variables). KnowsVariables c.args.variables.now vs) (sym same) k
 
 pub returns-in-Transfer : goal.returns-in-Transfer
-returns-in-Transfer c = λ f g k a. let no = rw c.in-Transfer.is at a in absurd no
+returns-in-Transfer c = λ f g k a. let its = rw c.in-Transfer.is at a in rw c.note-in-Transfer.ensures (read_known c.args.variables.now f g c.in-Transfer.transfer.tally its.0 its.1 k)
 
 pub returns-in-Pause : goal.returns-in-Pause
 returns-in-Pause c = λ f g k a. let no = rw c.in-Pause.is at a in absurd no

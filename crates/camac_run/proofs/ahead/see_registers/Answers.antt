@@ -19,7 +19,12 @@ registers-preserved c =
     ] in
     filled_on (λ j (v : Address). get_or held j None ≡ Some v) c.registers.known c.registers.i its c.registers.invariant here
 
+pub others-preserved : goal.others-preserved
+others-preserved c =
+    let held = held_at c.args.places c.args.all.now in
+    filled_on (λ j (v : Address). get_or held j None ≡ Some v) c.others.known c.others.i None c.others.invariant tt
+
 pub returns : goal.returns
 returns c =
     let held = held_at c.args.places c.args.all.now in
-    filled (λ j (v : Address). get_or held j None ≡ Some v) c.registers.known (λ j v less e. c.registers.invariant j v (omega (arith, less)) e)
+    filled (λ j (v : Address). get_or held j None ≡ Some v) c.others.known (λ j v less e. c.others.invariant j v (omega (arith, less)) e)

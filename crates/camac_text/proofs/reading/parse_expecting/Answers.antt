@@ -18,7 +18,7 @@ use Rattle.camac_text_cursor.specs.Choice.{held}
 use Rattle.camac_text_cursor.specs.Tried.{Tried, Told}
 use Rattle.camac_text.specs.Expecting.{TellsAfter, Fits, IsRefused, IsExact, ExpectsAfter}
 use Rattle.camac_tokens.specs.declared.token.TokenKind.{TokenKind}
-use Rattle.camac_tokens.specs.declared.fault.TextCase.TheVariants as told
+use Rattle.camac_tokens.specs.declared.fault.TextCase.TheVariants as text_case
 use Rattle.camac_text_cursor.specs.declared.choice.Choice.{Choice}
 use Rattle.camac_text_cursor.specs.Expected.{Admits}
 use Rattle.camac_text_cursor.proofs.Places.{noted_all, admits, left_at, Passes, Refuses}
@@ -42,10 +42,10 @@ not_admitted : (cs : List Choice) (at : Option TokenKind) (b : Bool) → admits 
 not_admitted cs at true is free = absurd (free (admitted_in cs at is))
 not_admitted cs at false is free = refl
 
-exact : (tokens : List Token) (end_line : ℕ) (spot : Spot) (set : Choice → Bool) → declarations_at (start tokens end_line) ≡ Err (record { case = told.Unexpected; spot = spot; tried = Told set }) → IsExact tokens spot.left set
+exact : (tokens : List Token) (end_line : ℕ) (spot : Spot) (set : Choice → Bool) → declarations_at (start tokens end_line) ≡ Err (record { case = text_case.Unexpected; spot = spot; tried = Told set }) → IsExact tokens spot.left set
 unfolding tree_of_tokens
 exact tokens end_line spot set e =
-    let a = (local_declarations (start tokens end_line)).fails (record { case = told.Unexpected; spot = spot; tried = Told set }) e in
+    let a = (local_declarations (start tokens end_line)).fails (record { case = text_case.Unexpected; spot = spot; tried = Told set }) e in
     let set_is : set ≡ set_of a.mine = told_is set (set_of a.mine) (a.tries ∙ ap (noted_all a.mine) (none_carried a.taken) ∙ told_set a.mine) in
     record {
       taken = a.taken;
@@ -61,7 +61,7 @@ exact tokens end_line spot set e =
     }
 
 expects : (made : Result (List Token) Fault) (end_line : ℕ) (e : TextFault) (expected : Choices) → TellsAfter made end_line e expected → ExpectsAfter made e expected
-expects (Ok tokens) end_line (text_fault.Broken told.Unexpected spot) expected at = exact tokens end_line spot (held expected) at
+expects (Ok tokens) end_line (text_fault.Broken text_case.Unexpected spot) expected at = exact tokens end_line spot (held expected) at
 expects _ end_line e expected at = tt
 
 -- What is told of a fault is what was looked for at its token.

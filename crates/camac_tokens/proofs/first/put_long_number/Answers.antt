@@ -1,9 +1,8 @@
-use Rattle.std.proofs.Common.{◌≡◌, ℕ, List, Some, refl, sym, subst}
-use Rattle.camac_tokens.specs.declared.fault.TextCase.TheVariants as told
-use Rattle.camac_tokens.specs.Scanning.{number_or_fault, wrong}
-use Rattle.camac_tokens.proofs.Scans.{number_wrong}
+use Rattle.std.proofs.Common.{refl, sym, ◌∙◌, arith}
+use Rattle.camac_tokens.specs.declared.fault.TextCase.TheVariants as text_case
+use Rattle.camac_tokens.proofs.Scans.{first_too_large}
 use Rattle.camac_tokens.proofs.first.put_long_number.Goals as goal
 
-pub returns-in-None : goal.returns-in-None
-returns-in-None c =
-    (refl, (told.Number 4294967295, subst (λ (digits : List ℕ). wrong (number_or_fault digits) ≡ Some (told.Number 4294967295)) c.digits_text-digits.ensures (number_wrong c.digits_text-digits.result.now (sym c.in-None.ensures))))
+pub returns-then-value-gt4294967295 : goal.returns-then-value-gt4294967295
+returns-then-value-gt4294967295 c =
+    (refl, (text_case.Number 4294967295, first_too_large c.loop-rest.value c.args.text.now c.loop-rest.rest.now c.in-len1-up.len_at_least (sym c.is_ascii_digit.ensures.value ∙ c.if-not-is_ascii_digit.false) c.loop-rest.invariant.value (omega (arith, c.from.ensures, c.if-value-gt4294967295.true))))

@@ -14,7 +14,7 @@ use Rattle.camac_tokens.specs.Start.{Start}
 use Rattle.camac_tokens.specs.Start as start
 use Rattle.camac_tokens.specs.declared.fault.TextCase.{TextCase}
 use Rattle.camac_tokens.specs.declared.fault.Limit.TheVariants.{NameBytes}
-use Rattle.camac_tokens.specs.declared.fault.TextCase.TheVariants as told
+use Rattle.camac_tokens.specs.declared.fault.TextCase.TheVariants as text_case
 use Rattle.camac_tokens.specs.Fault.{Fault}
 use Rattle.camac_tokens.specs.Words.{keyword}
 use Rattle.camac_tokens.specs.Scanning.{is_name_byte, is_blank, decimal_value, keyword_or, pair_at, single_at, pair_or_single, start_of, wrong, spot_at, line_after, tokens_by, tokens_from, tokens_of}
@@ -44,7 +44,7 @@ word_breaks : (k : Option Keyword) (text : List ℕ) → keyword (take_while is_
 unfolding BreaksIf
 word_breaks (Some w) text at is = tt
 word_breaks None text at is =
-    breaks_if (ltb 32 (length (take_while is_name_byte text))) (start.Wrong (told.Limit NameBytes)) (start.Found (kind.Name (take_while is_name_byte text)) (length (take_while is_name_byte text))) text
+    breaks_if (ltb 32 (length (take_while is_name_byte text))) (start.Wrong (text_case.Limit NameBytes)) (start.Found (kind.Name (take_while is_name_byte text)) (length (take_while is_name_byte text))) text
     (λ on. record {
       bytes = take_while is_name_byte text;
       rest = drop (length (take_while is_name_byte text)) text;
@@ -55,10 +55,10 @@ word_breaks None text at is =
     }) (λ _. tt)
 
 number_breaks : (text : List ℕ) → IsRun is_ascii_digit is_ascii_digit (take_while is_ascii_digit text) (drop (length (take_while is_ascii_digit text)) text)
-    → BreaksIf (cond (ltb (decimal_value (take_while is_ascii_digit text)) 4294967296) (start.Found (kind.Number (decimal_value (take_while is_ascii_digit text))) (length (take_while is_ascii_digit text))) (start.Wrong (told.Number 4294967295))) text
+    → BreaksIf (cond (ltb (decimal_value (take_while is_ascii_digit text)) 4294967296) (start.Found (kind.Number (decimal_value (take_while is_ascii_digit text))) (length (take_while is_ascii_digit text))) (start.Wrong (text_case.Number 4294967295))) text
 unfolding BreaksIf
 number_breaks text is =
-    breaks_if (ltb (decimal_value (take_while is_ascii_digit text)) 4294967296) (start.Found (kind.Number (decimal_value (take_while is_ascii_digit text))) (length (take_while is_ascii_digit text))) (start.Wrong (told.Number 4294967295)) text
+    breaks_if (ltb (decimal_value (take_while is_ascii_digit text)) 4294967296) (start.Found (kind.Number (decimal_value (take_while is_ascii_digit text))) (length (take_while is_ascii_digit text))) (start.Wrong (text_case.Number 4294967295)) text
     (λ _. tt)
     (λ off. (
       refl,
@@ -180,9 +180,9 @@ broken_from (suc n) line (b ∷ bs) f few e =
 
 -- the case by what the first byte is
 case_by : Bool → Bool → TextCase
-case_by true number = told.Limit NameBytes
-case_by false true = told.Number 4294967295
-case_by false false = told.Byte
+case_by true number = text_case.Limit NameBytes
+case_by false true = text_case.Number 4294967295
+case_by false false = text_case.Byte
 
 begins_run : (first each : ℕ → Bool) (bytes rest : List ℕ) → IsRun first each bytes rest → begins first (bytes ++ rest) ≡ true
 begins_run first each [] rest is = absurd (let none : false ≡ true = is.start in cc)
@@ -194,9 +194,9 @@ no_word_begins (b ∷ bs) rest is = no_letter b (digit_high b is.start)
 
 the_case : (r : TextCase) (text : List ℕ) → Breaks r text → r ≡ case_by (begins is_ascii_alphabetic text) (begins is_ascii_digit text)
 unfolding case_by
-the_case told.Byte text is = rw (is.no_word, is.no_number) refl
-the_case (told.Number most) text (same, is) = rw (is.parts, no_word_begins is.bytes is.rest is.digits, begins_run is_ascii_digit is_ascii_digit is.bytes is.rest is.digits) (ap told.Number same)
-the_case (told.Limit NameBytes) text is = rw (is.parts, begins_run is_ascii_alphabetic is_name_byte is.bytes is.rest is.word) refl
+the_case text_case.Byte text is = rw (is.no_word, is.no_number) refl
+the_case (text_case.Number most) text (same, is) = rw (is.parts, no_word_begins is.bytes is.rest is.digits, begins_run is_ascii_digit is_ascii_digit is.bytes is.rest is.digits) (ap text_case.Number same)
+the_case (text_case.Limit NameBytes) text is = rw (is.parts, begins_run is_ascii_alphabetic is_name_byte is.bytes is.rest is.word) refl
 the_case _ text is = absurd is
 
 -- it is the case that the scan finds
@@ -215,9 +215,9 @@ fault_at : (line : ℕ) (rest : List ℕ) (r : TextCase) → Breaks r rest
     → ((k : Option TokenKind) (bytes after : List ℕ) → rest ≡ bytes ++ after → IsPiece k bytes after → ⊥)
     → tokens_from 0 line rest ≡ Err (record { case = r; spot = spot_at line (length rest) })
 unfolding tokens_from
-fault_at line [] told.Byte why nothing = let some = why.some in absurd (omega (arith, some))
-fault_at line [] (told.Number most) why nothing = absurd (no_bytes why.1.bytes why.1.rest why.1.parts why.1.digits)
-fault_at line [] (told.Limit NameBytes) why nothing = absurd (no_bytes why.bytes why.rest why.parts why.word)
+fault_at line [] text_case.Byte why nothing = let some = why.some in absurd (omega (arith, some))
+fault_at line [] (text_case.Number most) why nothing = absurd (no_bytes why.1.bytes why.1.rest why.1.parts why.1.digits)
+fault_at line [] (text_case.Limit NameBytes) why nothing = absurd (no_bytes why.bytes why.rest why.parts why.word)
 fault_at line [] _ why nothing = absurd why
 fault_at line (b ∷ bs) r why nothing =
     ap (λ (g : Start). tokens_by g (spot_at line (length (b ∷ bs))) (λ n. tokens_from n (line_after line b) bs)) (wrong_here (start_of b (b ∷ bs)) (b ∷ bs) r why (start_stands b bs) (start_breaks b bs) nothing)

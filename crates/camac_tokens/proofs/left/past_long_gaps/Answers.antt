@@ -18,6 +18,11 @@ loop-byte-preserved-then-begins_with_eight_spaces c =
     let skips = spaces_skip 7 c.loop-byte.at c.loop-byte.rest.now (c.begins_with_eight_spaces.ensures c.if-begins_with_eight_spaces.true) in
     rw c.split_at-then-begins_with_eight_spaces.ensures.back (record { same = skips.same ∙ c.loop-byte.invariant.same; lines = omega (arith, skips.lines, c.loop-byte.invariant.lines) })
 
+pub loop-byte-preserved-then-begins_with_two_spaces : goal.loop-byte-preserved-then-begins_with_two_spaces
+loop-byte-preserved-then-begins_with_two_spaces c =
+    let skips = spaces_skip 1 c.loop-byte.at c.loop-byte.rest.now (c.begins_with_two_spaces.ensures c.if-begins_with_two_spaces.true) in
+    rw c.split_at-then-begins_with_two_spaces.ensures.back (record { same = skips.same ∙ c.loop-byte.invariant.same; lines = omega (arith, skips.lines, c.loop-byte.invariant.lines) })
+
 pub loop-byte-preserved : goal.loop-byte-preserved
 loop-byte-preserved c =
     let rest = c.loop-byte.rest.now in

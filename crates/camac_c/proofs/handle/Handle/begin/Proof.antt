@@ -46,8 +46,8 @@ use Rattle.std.specs.contracts.alloc.Global as heap
 use Rattle.std.proofs.alloc.Global.TheLaws as heap_laws
 use Rattle.camac_c.specs.Owned.{run_in}
 use Rattle.camac_c.specs.Talk.{StartsOn}
-use Rattle.camac_checked.specs.contracts.checked.Checked as script
-use Rattle.camac_checked.proofs.checked.Checked.TheLaws as script_laws
+use Rattle.camac_rules.specs.contracts.checked.Checked as script
+use Rattle.camac_rules.proofs.checked.Checked.TheLaws as script_laws
 use Rattle.camac_c.specs.contracts.handle.Handle as handle
 use Rattle.camac_c.specs.contracts.loose.Loose as loose
 use Rattle.camac_c.proofs.Taken.{al, three, three_good, both_good, handle_in, some_owned, loose_in_at, result_out, both, loose_out}

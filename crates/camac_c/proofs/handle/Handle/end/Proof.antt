@@ -34,7 +34,7 @@ use Rattle.std_alloc.proofs.ResultValues.{and_tt}
 use Rattle.std.specs.contracts.impls.GlobalAllocator.TheImpl.{ghosts}
 use Rattle.std.specs.contracts.alloc.Global as heap
 use Rattle.camac_c.specs.Owned.{run_in}
-use Rattle.camac_checked.specs.contracts.checked.Checked as script
+use Rattle.camac_rules.specs.contracts.checked.Checked as script
 use Rattle.camac_c.specs.contracts.handle.Handle as handle
 use Rattle.camac_c.specs.contracts.loose.Loose as loose
 use Rattle.camac_c.proofs.Taken.{al, three, three_good, both_good, handle_out, either_owned, loose_in_at, both}

@@ -12,7 +12,8 @@ use Rattle.camac_machine.proofs.Rooms.{room_kept}
 use Rattle.camac_machine.proofs.Frames.{wants_advance, wants_first, enter_advances, step_advances}
 use Rattle.camac_machine.proofs.Loops.{while_begins}
 use Rattle.camac_machine.proofs.Fine.{turns_are}
-use Rattle.camac_machine.proofs.Trees.{assign_is, register_is, put_is, single_is, crate_is, lam_is, scan_is, q_stop_is, q_repeat_is, choose_is, choose_else_is, lock_is, for_is, each_is, while_is, call_is}
+use Rattle.camac_lang.specs.declared.tree.Action.TheVariants as act
+use Rattle.camac_lang.proofs.Trees.{action_is, choose_is, choose_else_is, lock_is, for_is, each_is, while_is}
 use Rattle.camac_machine.proofs.machine.Machine.begin.Goals as goal
 
 -- what a transfer wants is told by whether it wants something
@@ -29,97 +30,97 @@ overflow_add-self g c =
 -- statements without a cycle
 pub assign-requires : goal.assign-requires
 assign-requires g c =
-    let e = assign_is c.in-Assign.assignment in
-    (search, (room_kept c.requires.room, (rw (c.in-Assign.is, e) at c.requires.fits, rw (c.in-Assign.is, e) at c.requires.fine)))
+    let e = action_is (act.Assign c.in-Assign.assignment) in
+    (search, (room_kept c.requires.room, (rw (c.in-Action.is, c.in-Assign.is, e) at c.requires.fits, rw (c.in-Action.is, c.in-Assign.is, e) at c.requires.fine)))
 
 pub returns-in-Assign-clause-advances : goal.returns-in-Assign-clause-advances
 returns-in-Assign-clause-advances g c =
     let s = c.in-Assign.assignment in
-    rw (c.in-Assign.is, assign_is s) (step_advances c.args.self.now (assignment_of s) None c.assign.new.self c.assign.ensures)
+    rw (c.in-Action.is, c.in-Assign.is, action_is (act.Assign s)) (step_advances c.args.self.now (assignment_of s) None c.assign.new.self c.assign.ensures)
 
 pub set_register-requires : goal.set_register-requires
 set_register-requires g c =
-    let e = register_is c.in-SetRegister.setting in
-    (search, (room_kept c.requires.room, (rw (c.in-SetRegister.is, e) at c.requires.fits, rw (c.in-SetRegister.is, e) at c.requires.fine)))
+    let e = action_is (act.SetRegister c.in-SetRegister.setting) in
+    (search, (room_kept c.requires.room, (rw (c.in-Action.is, c.in-SetRegister.is, e) at c.requires.fits, rw (c.in-Action.is, c.in-SetRegister.is, e) at c.requires.fine)))
 
 pub returns-in-SetRegister-clause-advances : goal.returns-in-SetRegister-clause-advances
 returns-in-SetRegister-clause-advances g c =
     let s = c.in-SetRegister.setting in
-    rw (c.in-SetRegister.is, register_is s) (step_advances c.args.self.now (setting_of s) None c.set_register.new.self c.set_register.ensures)
+    rw (c.in-Action.is, c.in-SetRegister.is, action_is (act.SetRegister s)) (step_advances c.args.self.now (setting_of s) None c.set_register.new.self c.set_register.ensures)
 
 pub put-requires : goal.put-requires
 put-requires g c =
-    let e = put_is c.in-Put.action in
-    (search, (room_kept c.requires.room, (rw (c.in-Put.is, e) at c.requires.fits, rw (c.in-Put.is, e) at c.requires.fine)))
+    let e = action_is (act.Put c.in-Put.action) in
+    (search, (room_kept c.requires.room, (rw (c.in-Action.is, c.in-Put.is, e) at c.requires.fits, rw (c.in-Action.is, c.in-Put.is, e) at c.requires.fine)))
 
 pub returns-in-Put-clause-advances : goal.returns-in-Put-clause-advances
 returns-in-Put-clause-advances g c =
     let s = c.in-Put.action in
-    rw (c.in-Put.is, put_is s) (step_advances c.args.self.now (put_of s) None c.put.new.self c.put.ensures)
+    rw (c.in-Action.is, c.in-Put.is, action_is (act.Put s)) (step_advances c.args.self.now (put_of s) None c.put.new.self c.put.ensures)
 
 -- statements of one cycle
 pub single-requires : goal.single-requires
 single-requires g c =
-    let e = single_is c.in-Single.action in
-    (search, (room_kept c.requires.room, (rw (c.in-Single.is, e) at c.requires.fits, rw (c.in-Single.is, e) at c.requires.fine)))
+    let e = action_is (act.Single c.in-Single.action) in
+    (search, (room_kept c.requires.room, (rw (c.in-Action.is, c.in-Single.is, e) at c.requires.fits, rw (c.in-Action.is, c.in-Single.is, e) at c.requires.fine)))
 
 pub returns-in-Single-clause-advances : goal.returns-in-Single-clause-advances
 returns-in-Single-clause-advances g c =
     let s = c.in-Single.action in
-    rw (c.in-Single.is, single_is s) (wants_advance c.args.self.now (single_of s) c.single.new.pending c.requires.room c.single.ensures)
+    rw (c.in-Action.is, c.in-Single.is, action_is (act.Single s)) (wants_advance c.args.self.now (single_of s) c.single.new.pending c.requires.room c.single.ensures)
 
 pub returns-in-Single-clause-wants : goal.returns-in-Single-clause-wants
 returns-in-Single-clause-wants g c = λ yes.
     let s = c.in-Single.action in
-    rw (c.in-Single.is, single_is s) (wants_first c.args.self.now (single_of s) c.single.new.pending c.single.ensures)
+    rw (c.in-Action.is, c.in-Single.is, action_is (act.Single s)) (wants_first c.args.self.now (single_of s) c.single.new.pending c.single.ensures)
 
 pub call_crate-requires : goal.call_crate-requires
 call_crate-requires g c =
-    let e = crate_is c.in-CrateCall.action in
-    (search, (room_kept c.requires.room, (rw (c.in-CrateCall.is, e) at c.requires.fits, rw (c.in-CrateCall.is, e) at c.requires.fine)))
+    let e = action_is (act.CrateCall c.in-CrateCall.action) in
+    (search, (room_kept c.requires.room, (rw (c.in-Action.is, c.in-CrateCall.is, e) at c.requires.fits, rw (c.in-Action.is, c.in-CrateCall.is, e) at c.requires.fine)))
 
 pub returns-in-CrateCall-clause-advances : goal.returns-in-CrateCall-clause-advances
 returns-in-CrateCall-clause-advances g c =
     let s = c.in-CrateCall.action in
-    rw (c.in-CrateCall.is, crate_is s) (wants_advance c.args.self.now (crate_action_of s) c.call_crate.new.pending c.requires.room c.call_crate.ensures)
+    rw (c.in-Action.is, c.in-CrateCall.is, action_is (act.CrateCall s)) (wants_advance c.args.self.now (crate_action_of s) c.call_crate.new.pending c.requires.room c.call_crate.ensures)
 
 pub returns-in-CrateCall-clause-wants : goal.returns-in-CrateCall-clause-wants
 returns-in-CrateCall-clause-wants g c = λ yes.
     let s = c.in-CrateCall.action in
-    rw (c.in-CrateCall.is, crate_is s) (wants_first c.args.self.now (crate_action_of s) c.call_crate.new.pending c.call_crate.ensures)
+    rw (c.in-Action.is, c.in-CrateCall.is, action_is (act.CrateCall s)) (wants_first c.args.self.now (crate_action_of s) c.call_crate.new.pending c.call_crate.ensures)
 
 pub call_lam-requires : goal.call_lam-requires
 call_lam-requires g c =
-    let e = lam_is c.in-LamCall.action in
-    (search, (rw (c.in-LamCall.is, e) at c.requires.fits, rw (c.in-LamCall.is, e) at c.requires.fine))
+    let e = action_is (act.LamCall c.in-LamCall.action) in
+    (search, (rw (c.in-Action.is, c.in-LamCall.is, e) at c.requires.fits, rw (c.in-Action.is, c.in-LamCall.is, e) at c.requires.fine))
 
 pub returns-in-LamCall-clause-advances : goal.returns-in-LamCall-clause-advances
 returns-in-LamCall-clause-advances g c =
     let s = c.in-LamCall.action in
-    rw (c.in-LamCall.is, lam_is s) (wants_advance c.args.self.now (lam_action_of s) c.call_lam.new.pending c.requires.room c.call_lam.ensures)
+    rw (c.in-Action.is, c.in-LamCall.is, action_is (act.LamCall s)) (wants_advance c.args.self.now (lam_action_of s) c.call_lam.new.pending c.requires.room c.call_lam.ensures)
 
 pub returns-in-LamCall-clause-wants : goal.returns-in-LamCall-clause-wants
 returns-in-LamCall-clause-wants g c = λ yes.
     let s = c.in-LamCall.action in
-    rw (c.in-LamCall.is, lam_is s) (wants_first c.args.self.now (lam_action_of s) c.call_lam.new.pending c.call_lam.ensures)
+    rw (c.in-Action.is, c.in-LamCall.is, action_is (act.LamCall s)) (wants_first c.args.self.now (lam_action_of s) c.call_lam.new.pending c.call_lam.ensures)
 
 -- transfers
 pub scan-requires : goal.scan-requires
 scan-requires g c =
     let w = c.in-Scan in
-    let e = scan_is w.scan in
-    (search, (room_kept c.requires.room, (rw (w.is, e) at c.requires.fits, rw (w.is, e) at c.requires.fine)))
+    let e = action_is (act.Scan w.scan) in
+    (search, (room_kept c.requires.room, (rw (c.in-Action.is, w.is, e) at c.requires.fits, rw (c.in-Action.is, w.is, e) at c.requires.fine)))
 
 pub returns-in-Scan-clause-advances : goal.returns-in-Scan-clause-advances
 returns-in-Scan-clause-advances g c =
     let w = c.in-Scan in
-    rw (w.is, scan_is w.scan, wanted_same c.scan.new.pending c.scan.result c.scan.ensures.some)
+    rw (c.in-Action.is, w.is, action_is (act.Scan w.scan), wanted_same c.scan.new.pending c.scan.result c.scan.ensures.some)
     (proceeds_advance c.args.self.now (scan_of w.scan) c.scan.new.pending c.scan.new.self c.scan.ensures.goes)
 
 pub returns-in-Scan-clause-wants : goal.returns-in-Scan-clause-wants
 returns-in-Scan-clause-wants g c = λ yes.
     let w = c.in-Scan in
-    rw (w.is, scan_is w.scan) c.scan.ensures.goes.wants
+    rw (c.in-Action.is, w.is, action_is (act.Scan w.scan)) c.scan.ensures.goes.wants
 
 pub returns-in-Scan-clause-pace : goal.returns-in-Scan-clause-pace
 returns-in-Scan-clause-pace g c =
@@ -129,19 +130,19 @@ returns-in-Scan-clause-pace g c =
 pub q_stop-requires : goal.q_stop-requires
 q_stop-requires g c =
     let w = c.in-QStop in
-    let e = q_stop_is w.transfer in
-    (search, (room_kept c.requires.room, (rw (w.is, e) at c.requires.fits, rw (w.is, e) at c.requires.fine)))
+    let e = action_is (act.QStop w.transfer) in
+    (search, (room_kept c.requires.room, (rw (c.in-Action.is, w.is, e) at c.requires.fits, rw (c.in-Action.is, w.is, e) at c.requires.fine)))
 
 pub returns-in-QStop-clause-advances : goal.returns-in-QStop-clause-advances
 returns-in-QStop-clause-advances g c =
     let w = c.in-QStop in
-    rw (w.is, q_stop_is w.transfer, wanted_same c.q_stop.new.pending c.q_stop.result c.q_stop.ensures.some)
+    rw (c.in-Action.is, w.is, action_is (act.QStop w.transfer), wanted_same c.q_stop.new.pending c.q_stop.result c.q_stop.ensures.some)
     (proceeds_advance c.args.self.now (q_stop_of w.transfer) c.q_stop.new.pending c.q_stop.new.self c.q_stop.ensures.goes)
 
 pub returns-in-QStop-clause-wants : goal.returns-in-QStop-clause-wants
 returns-in-QStop-clause-wants g c = λ yes.
     let w = c.in-QStop in
-    rw (w.is, q_stop_is w.transfer) c.q_stop.ensures.goes.wants
+    rw (c.in-Action.is, w.is, action_is (act.QStop w.transfer)) c.q_stop.ensures.goes.wants
 
 pub returns-in-QStop-clause-pace : goal.returns-in-QStop-clause-pace
 returns-in-QStop-clause-pace g c =
@@ -151,19 +152,19 @@ returns-in-QStop-clause-pace g c =
 pub q_repeat-requires : goal.q_repeat-requires
 q_repeat-requires g c =
     let w = c.in-QRepeat in
-    let e = q_repeat_is w.transfer w.limit in
-    (search, (room_kept c.requires.room, (rw (w.is, e) at c.requires.fits, rw (w.is, e) at c.requires.fine)))
+    let e = action_is (act.QRepeat w.transfer w.limit) in
+    (search, (room_kept c.requires.room, (rw (c.in-Action.is, w.is, e) at c.requires.fits, rw (c.in-Action.is, w.is, e) at c.requires.fine)))
 
 pub returns-in-QRepeat-clause-advances : goal.returns-in-QRepeat-clause-advances
 returns-in-QRepeat-clause-advances g c =
     let w = c.in-QRepeat in
-    rw (w.is, q_repeat_is w.transfer w.limit, wanted_same c.q_repeat.new.pending c.q_repeat.result c.q_repeat.ensures.some)
+    rw (c.in-Action.is, w.is, action_is (act.QRepeat w.transfer w.limit), wanted_same c.q_repeat.new.pending c.q_repeat.result c.q_repeat.ensures.some)
     (proceeds_advance c.args.self.now (q_repeat_of w.transfer w.limit) c.q_repeat.new.pending c.q_repeat.new.self c.q_repeat.ensures.goes)
 
 pub returns-in-QRepeat-clause-wants : goal.returns-in-QRepeat-clause-wants
 returns-in-QRepeat-clause-wants g c = λ yes.
     let w = c.in-QRepeat in
-    rw (w.is, q_repeat_is w.transfer w.limit) c.q_repeat.ensures.goes.wants
+    rw (c.in-Action.is, w.is, action_is (act.QRepeat w.transfer w.limit)) c.q_repeat.ensures.goes.wants
 
 pub returns-in-QRepeat-clause-pace : goal.returns-in-QRepeat-clause-pace
 returns-in-QRepeat-clause-pace g c =
@@ -289,10 +290,10 @@ returns-in-While-clause-advances g c =
 
 pub call-requires : goal.call-requires
 call-requires g c =
-    let e = call_is c.in-Call.call in
-    (search, (room_kept c.requires.room, (rw (c.in-Call.is, e) at c.requires.fits, rw (c.in-Call.is, e) at c.requires.fine)))
+    let e = action_is (act.Call c.in-Call.call) in
+    (search, (room_kept c.requires.room, (rw (c.in-Action.is, c.in-Call.is, e) at c.requires.fits, rw (c.in-Action.is, c.in-Call.is, e) at c.requires.fine)))
 
 pub returns-in-Call-clause-advances : goal.returns-in-Call-clause-advances
 returns-in-Call-clause-advances g c =
     let s = c.in-Call.call in
-    rw (c.in-Call.is, call_is s) (enter_advances c.args.self.now (call_of s) c.call.new.self c.call.ensures)
+    rw (c.in-Action.is, c.in-Call.is, action_is (act.Call s)) (enter_advances c.args.self.now (call_of s) c.call.new.self c.call.ensures)

@@ -1,35 +1,62 @@
-use Rattle.std.proofs.Common.{refl, ap}
-use Rattle.std.specs.Prelude.{None}
-use Rattle.camac_machine.specs.declared.machine.Pending.TheVariants.{Cycle, Read, Lock, Pause}
+use Rattle.std.proofs.Common.{refl, sym, ap, subst, ◌∙◌}
+use Rattle.camac_machine.specs.declared.machine.Pending.TheVariants.{Cycle, Read, Lock, Transfer, Pause}
 use Rattle.camac_machine.specs.Course.{words_sent}
-use Rattle.camac_machine.specs.Rest.{transfers}
-use Rattle.camac_machine.proofs.Courses.{further_fine, further_proceeds, cycle_alone, read_alone, lock_alone, pause_alone, alone_proceeds}
+use Rattle.camac_machine.specs.MachineState.{pending_of}
+use Rattle.camac_machine.specs.Rest.{address_of, transfers}
+use Rattle.camac_branch.specs.Allowed.{AllowsCommands}
+use Rattle.camac_branch.specs.Plan.{Layout}
+use Rattle.camac_machine.proofs.Courses.{further, further_fine, moves_on, moves_over, next_at, next_data, reads_in, stays_at, cycle_alone, read_alone, lock_alone, pause_alone, alone_proceeds}
 use Rattle.camac_machine.proofs.machine.Machine.follow_transfer.Goals as goal
 
-pub next_cycle-requires : goal.next_cycle-requires
-next_cycle-requires g c =
+pub move_on-requires-clause-at : goal.move_on-requires-clause-at
+move_on-requires-clause-at g c =
     let w = c.in-Some-Transfer in
     let k = w.transfer in
-    let follows' = rw (w.is, w.field-0-is) at c.requires.follows in
-    (search, (c.requires.room, (follows'.0, further_fine c.args.self.now k.command k.course c.take.new.self k.table k.tally c.take.ensures (rw (w.is, w.field-0-is) at c.requires.fine))))
+    let P : Layout → Type 0 = λ p. AllowsCommands p in
+    next_at c.args.self.now (further c.args.self.now k.command k.kept_width k.course c.take.new.self k.table k.tally c.take.ensures) (subst P c.plan.ensures c.allows_commands.ensures)
+    (further_fine c.args.self.now k.command k.kept_width k.course c.take.new.self k.table k.tally c.take.ensures (rw (w.is, w.field-0-is) at c.requires.fine))
 
-pub returns-in-Some-clause-cycle : goal.returns-in-Some-clause-cycle
-returns-in-Some-clause-cycle g c = λ yes.
+pub move_on-requires-clause-data : goal.move_on-requires-clause-data
+move_on-requires-clause-data g c =
     let w = c.in-Some-Transfer in
     let k = w.transfer in
-    rw (w.is, w.field-0-is) (refl, further_proceeds c.args.self.now k.command k.course c.take.new.self k.table k.tally c.take.ensures _ c.next_cycle.new.self c.in-Some.ensures.goes)
+    next_data c.args.self.now (further c.args.self.now k.command k.kept_width k.course c.take.new.self k.table k.tally c.take.ensures)
+    (further_fine c.args.self.now k.command k.kept_width k.course c.take.new.self k.table k.tally c.take.ensures (rw (w.is, w.field-0-is) at c.requires.fine))
 
-pub returns-in-Some-clause-same : goal.returns-in-Some-clause-same
-returns-in-Some-clause-same g c = λ yes.
+pub move_on-requires-clause-stays : goal.move_on-requires-clause-stays
+move_on-requires-clause-stays g c = λ yes.
     let w = c.in-Some-Transfer in
     let k = w.transfer in
-    rw (w.is, w.field-0-is) (c.take.new.self, ap (λ f. transfers c.take.new.self f (words_sent k.table) k.tally) c.in-Some.ensures.function)
+    let ready = rw (w.is, w.field-0-is) at c.requires.follows in
+    stays_at (address_of k.command) k.course c.take.new.self c.args.self.now.q (sym c.stays-stays.ensures ∙ yes) ready.1 c.take.ensures
 
-pub returns-in-None-next_cycle-clause-tally : goal.returns-in-None-next_cycle-clause-tally
-returns-in-None-next_cycle-clause-tally g c = λ no.
+pub move_on-requires-clause-reads : goal.move_on-requires-clause-reads
+move_on-requires-clause-reads g c =
     let w = c.in-Some-Transfer in
     let k = w.transfer in
-    rw (w.is, w.field-0-is) (further_proceeds c.args.self.now k.command k.course c.take.new.self k.table k.tally c.take.ensures None c.next_cycle.new.self c.in-None-next_cycle.ensures.goes)
+    let ready = rw (w.is, w.field-0-is) at c.requires.follows in
+    reads_in k.course k.table k.command.mv ready.2
+
+pub returns-then-move_on-clause-cycle : goal.returns-then-move_on-clause-cycle
+returns-then-move_on-clause-cycle g c = λ yes.
+    let w = c.in-Some-Transfer in
+    let k = w.transfer in
+    let m = c.if-move_on.ensures in
+    rw (w.is, w.field-0-is) (refl, moves_on c.args.self.now k.command k.kept_width k.course c.take.new.self k.table k.tally c.take.ensures c.move_on.new.self m.same (rw (w.is, w.field-0-is) at c.requires.follows) c.requires.room (rw (w.is, w.field-0-is) at c.requires.fine) m.next (m.moves refl) m.function m.width)
+
+pub returns-then-move_on-clause-same : goal.returns-then-move_on-clause-same
+returns-then-move_on-clause-same g c = λ yes.
+    let w = c.in-Some-Transfer in
+    let k = w.transfer in
+    let m = c.if-move_on.ensures in
+    rw (w.is, w.field-0-is) (c.take.new.self, ap pending_of (ap Transfer m.same) ∙ ap (λ f. transfers c.take.new.self f (words_sent k.table) k.tally) m.function)
+
+pub returns-else-move_on-clause-tally : goal.returns-else-move_on-clause-tally
+returns-else-move_on-clause-tally g c = λ no.
+    let w = c.in-Some-Transfer in
+    let k = w.transfer in
+    let m = c.if-move_on.ensures in
+    rw (w.is, w.field-0-is) (moves_over c.args.self.now k.command k.kept_width k.course c.take.new.self k.table k.tally c.take.ensures c.move_on.new.self m.same (rw (w.is, w.field-0-is) at c.requires.follows) c.requires.room (rw (w.is, w.field-0-is) at c.requires.fine) c.tally.result c.set_variable.new.self m.next c.tally.ensures c.set_variable.ensures.same)
 
 pub returns-in-Some-Cycle-clause-tally : goal.returns-in-Some-Cycle-clause-tally
 returns-in-Some-Cycle-clause-tally g c = λ no.

@@ -16,5 +16,5 @@ returns-clause-made g c =
           same_done c.in_ok-done.done k _ a.wait c.in_ok-done.ensures.command
           (c.in_ok-done.ensures.reply ∙ ap (λ p. reply_to p (branch_of h.branch) (address_of k) k.f a) c.plan.ensures) c.in_ok-done.ensures.wait.0;
       branch = c.in_ok-done.ensures.next;
-      same = same_made h c.cycle.new.branch c.in_ok-done.done _ c.from.result c.missed_with-self.result c.done.view_is c.from.ensures c.missed_with-self.ensures;
+      same = same_made h c.cycle.new.branch c.in_ok-done.done _ c.from.result c.add_missed.new.missed c.done.view_is c.from.ensures c.add_missed.ensures;
     }

@@ -4,7 +4,7 @@ use Rattle.camac_lang.specs.Scope.{is_well_formed}
 use Rattle.camac_lang.specs.Tree.{Script, Service}
 use Rattle.camac_lang.specs.declared.script.Service as rust
 use Rattle.camac_lang.specs.Fits.{fits}
-use Rattle.camac_checked.specs.Checked.{CheckedScript, IsChecked}
+use Rattle.camac_rules.specs.Checked.{CheckedScript, IsChecked}
 use Rattle.camac_lang.specs.View.{service_of, statements_of}
 use Rattle.std.proofs.lemmas.Option.{same_Some}
 use Rattle.camac_branch.specs.Branch.{Answer}

@@ -2,7 +2,7 @@ use Rattle.std.proofs.Common.{◌≡◌, ℕ, false, refl, sym, subst, ap, ◌�
 use Rattle.std.specs.Borrow.{Bor}
 use Rattle.arrayvec.specs.ArrayVec.{ArrayVec}
 use Rattle.camac_branch.specs.Crates.{Crates, branch_of}
-use Rattle.camac_checked.specs.Checked.{CheckedScript}
+use Rattle.camac_rules.specs.Checked.{CheckedScript}
 use Rattle.camac_machine.specs.MachineState.{context_in}
 use Rattle.camac_machine.specs.Rest.{onward}
 use Rattle.camac_run.proofs.Sizes.{machine_fits}
@@ -39,4 +39,5 @@ returns-in-Some g c =
       events = refl;
       overrun = refl;
       checked = ap (λ (b : Bor CheckedScript). b.now) m.checked;
+      limit = refl;
     })

@@ -4,7 +4,7 @@ use Rattle.camac_branch.specs.Branch.{pattern_of}
 use Rattle.camac_branch.specs.Crates.{Crates, branch_of}
 use Rattle.camac_model.specs.Behaviour.{does, demanded}
 use Rattle.std.specs.Borrow.{Bor}
-use Rattle.camac_checked.specs.Checked.{CheckedScript}
+use Rattle.camac_rules.specs.Checked.{CheckedScript}
 use Rattle.camac_model.specs.Fine.{most_turns}
 use Rattle.camac_model.specs.Run.{Chosen, service_for, service_meaning}
 use Rattle.camac_machine.specs.MachineState.{context_in, pending_of, is_paused_at, bit_at}
@@ -57,6 +57,7 @@ returns-in-None-clause-goes g c =
       same = refl;
       next = tt;
       none = refl;
+      ended = tt;
       overrun = first;
       checked = refl;
       at_demand = rw pending tt;
@@ -138,6 +139,7 @@ returns-in-Some-clause-goes g c =
       same = all.0;
       next = all.1;
       none = all.2;
+      ended = all.7;
       overrun = all.4 ∙ first;
       checked = all.5 ∙ ap (λ (z : Bor CheckedScript). z.now) s.checked;
       at_demand = rw pending (along_some after.pending after.at_demand c.copy-self-inside.result r.machine.branch c.copy-self-inside.ensures all.6);

@@ -1,7 +1,7 @@
 use Rattle.std.proofs.Common.{◌≡◌, ℕ, true, Some, refl, sym, ap, ◌∙◌, arith}
 use Rattle.std.specs.Borrow.{Bor}
 use Rattle.arrayvec.specs.ArrayVec.{ArrayVec}
-use Rattle.camac_checked.specs.Checked.{CheckedScript}
+use Rattle.camac_rules.specs.Checked.{CheckedScript}
 use Rattle.camac_machine.specs.declared.machine.Pending.TheVariants.{Pause}
 use Rattle.camac_machine.specs.MachineState.{after_pending, context_in, is_paused_at, bit_at}
 use Rattle.camac_machine.specs.Rest.{is_paused, served, says}

@@ -2,7 +2,7 @@ use Rattle.std.proofs.Common.{◌≡◌, ℕ, ◌+◌, ◌<◌, Some, refl, sym,
 use Rattle.std.specs.Prelude.{None, false}
 use Rattle.std.specs.Borrow.{Bor}
 use Rattle.arrayvec.specs.ArrayVec.{ArrayVec}
-use Rattle.camac_checked.specs.Checked.{CheckedScript}
+use Rattle.camac_rules.specs.Checked.{CheckedScript}
 use Rattle.camac_model.specs.Behaviour.{does, then_do}
 use Rattle.camac_machine.specs.declared.machine.Machine.{Machine}
 use Rattle.camac_machine.specs.MachineState.{context_in, state_of, left_in, pending_of, asked, is_paused_at, IsPending, piece_of, bit_at}
@@ -94,6 +94,7 @@ returns-in-None-taken-clause-goes g c =
       same = all.0;
       next = all.1;
       none = all.2;
+      ended = all.7;
       overrun = all.4 ∙ first;
       checked = all.5 ∙ ap (λ (z : Bor CheckedScript). z.now) (s.checked ∙ t.checked);
       at_demand = rw pending all.6;

@@ -5,7 +5,7 @@ use Rattle.camac_lang.specs.Scope.{is_well_formed}
 use Rattle.camac_lang.specs.Tree.{Script}
 use Rattle.camac_branch.specs.Branch.{Branch}
 use Rattle.camac_branch.specs.Crates.{branch_of}
-use Rattle.camac_checked.specs.Checked.{CheckedScript, IsChecked}
+use Rattle.camac_rules.specs.Checked.{CheckedScript, IsChecked}
 use Rattle.camac_lang.specs.Fits.{fits}
 use Rattle.camac_model.specs.Meaning.{context}
 use Rattle.camac_model.specs.Run.{rounds}

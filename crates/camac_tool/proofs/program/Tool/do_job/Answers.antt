@@ -1,5 +1,5 @@
 use Rattle.std.proofs.Common.{subst}
-use Rattle.camac_tool.specs.Apart.{Words}
+use Rattle.camac_tool_host.specs.Apart.{Words}
 use Rattle.camac_tool.specs.Causes.{RunCanFail}
 use Rattle.camac_tool.specs.Jobs.{DoesRun, Drives}
 use Rattle.camac_tool.proofs.program.Tool.do_job.Goals as goal

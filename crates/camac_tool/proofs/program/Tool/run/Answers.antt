@@ -1,27 +1,34 @@
-use Rattle.std.proofs.Common.{◌≡◌, refl}
+use Rattle.std.proofs.Common.{◌≡◌, ◌∙◌, refl, inr}
 use Rattle.camac_engines.specs.Engine.{is_write_fault}
-use Rattle.camac_tool.proofs.Caused.{of_inputs, of_run}
+use Rattle.camac_tool.proofs.Caused.{of_readers, of_run}
 use Rattle.camac_tool.proofs.Ended.{not_begun, run_handed}
-use Rattle.camac_tool.proofs.Inputs.{judged_read}
-use Rattle.camac_tool.specs.Apart.{words_of}
-use Rattle.camac_tool.specs.Saved.{bytes_in}
+use Rattle.camac_tool.proofs.Inputs.{judged_read, long_read}
+use Rattle.camac_tool_host.specs.Apart.{words_of}
+use Rattle.camac_tool.specs.Devices.{bytes_in}
 use Rattle.camac_tool.proofs.program.Tool.run.Goals as goal
 
 pub returns-in-Err-clause-does : goal.returns-in-Err-clause-does
-returns-in-Err-clause-does g c = not_begun (g.R.Host.bytes_of c.args.self.now.rt.now) (g.R.Host.finds c.args.self.now.rt.now) g.K.Saving.begun (words_of c.args.words) g.K.Saving.saves _ _
+returns-in-Err-clause-does g c = not_begun (g.R.Host.bytes_of c.args.self.now.rt.now) (g.R.Host.finds c.args.self.now.rt.now) g.S.Saving.begun (words_of c.args.words) _ g.S.Saving.saves _ c.in-Err.ensures.fault
 
 pub returns-in-Err-clause-cause : goal.returns-in-Err-clause-cause
-returns-in-Err-clause-cause g c failed = of_inputs _ g.K.Saving.fails c.requires.fails (c.in-Err.ensures.cause failed)
+returns-in-Err-clause-cause g c failed = inr (c.in-Err.ensures.cause failed)
 
 pub returns-clause-does : goal.returns-clause-does
 returns-clause-does g c =
     let bytes_of = g.R.Host.bytes_of c.args.self.now.rt.now in
-    let empty : bytes_in g.K.Saving.begun g.R.Host.holds c.new-2.result.device.file ≡ g.K.Saving.begun = rw (c.new-2.ensures, c.named-file.ensures.none) refl in
-    run_handed bytes_of (g.R.Host.finds c.args.self.now.rt.now) g.K.Saving.begun (words_of c.args.words) g.K.Saving.saves c.in-Ok.ensures.apart _ empty c.in-Ok.ensures.answers
-    (λ after j h. judged_read bytes_of c.args.words.plan.now c.args.words.script.now _ c.in-Ok.inputs.0 _ _ c.new.result c.in-Ok.inputs.1 _ c.in-Ok.ensures.plan c.source_of.ensures c.new.ensures.inner c.in-Ok.ensures.script j h)
+    let empty : bytes_in g.S.Saving.begun g.R.Host.holds c.new.result.device.file ≡ g.S.Saving.begun = rw (c.new.ensures, c.named-file.ensures.none) refl in
+    run_handed bytes_of (g.R.Host.finds c.args.self.now.rt.now) g.S.Saving.begun (words_of c.args.words) g.S.Saving.saves c.in-Ok.ensures.apart _ empty c.in-Ok.ensures.answers
+    (λ after j h. judged_read bytes_of c.args.words.plan.now c.args.words.script.now _ c.in-Ok.inputs.0 _ _ _ _ c.in-Ok.ensures.plan c.source_of.ensures c.in-Ok.ensures.script j h)
+    (λ after h. long_read bytes_of c.args.words.plan.now c.args.words.script.now _ c.in-Ok.inputs.0 _ _ _ _ c.in-Ok.ensures.plan c.source_of.ensures c.in-Ok.ensures.script h)
     refl _ _ _ c.run_on_devices-ran.result.outcome c.settled.result (λ s. refl) c.run_on_devices-ran.ensures.runs c.settled.ensures.ended c.settled.ensures.saved
 
 pub returns-clause-cause : goal.returns-clause-cause
 returns-clause-cause g c failed =
     let ran = c.run_on_devices-ran.result in
-    of_run (g.D.Device.failed ran.listing) ran.records.device.failed _ (is_write_fault ran.outcome) g.K.Saving.fails c.run_on_devices-ran.ensures.failed ran.records.device.cause (c.settled.ensures.cause failed)
+    of_run (g.D.Device.failed ran.listing) ran.records.device.failed _ (is_write_fault ran.outcome) _ g.K.Failing.fails c.args.self.now.fails c.run_on_devices-ran.ensures.failed ran.records.device.cause (c.settled.ensures.cause failed)
+
+pub returns-clause-unread : goal.returns-clause-unread
+returns-clause-unread g c is =
+    let ran = c.run_on_devices-ran in
+    c.args.self.now.fails
+    ∙ of_readers (λ i. i.failed) g.K.Failing.fails (λ i. i.cause) ran.new.plan ran.new.script ran.result.answers (ran.ensures.unread (c.settled.ensures.read is))

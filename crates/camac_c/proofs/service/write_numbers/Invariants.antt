@@ -1,6 +1,0 @@
-use Rattle.std.proofs.Common.{◌≡◌}
-use Rattle.camac_c.specs.Filled.{over_words}
-use Rattle.camac_c.proofs.service.write_numbers.Given as goal
-
-abbrev pub invariant-loop-i : goal.invariant-loop-i
-invariant-loop-i l = l.bytes ≡ over_words l.i l.numbers l.fn.bytes
