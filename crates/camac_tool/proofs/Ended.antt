@@ -1,12 +1,13 @@
 -- How a job ends, by what its engine says of its readers and writers.
 use Rattle.std.proofs.Common.{◌≡◌, ◌⊎◌, ℕ, Bool, true, List, [], Option, None, Some, refl, sym, ap, subst, ◌∙◌, inl, inr, append-nil}
 use Rattle.std.specs.Prelude.{false, IfOk, Result, Ok, Err}
-use Rattle.std.specs.Io.KnownBytes.{Appends, Keeps, append_known}
+use Rattle.std.specs.Io.KnownBytes.{Keeps, append_known}
 use Rattle.std.proofs.KnownBytes.{Keeps-refl}
 use Rattle.std.proofs.Math.Bool.{or-false}
 use Rattle.clap.specs.Words.{Text}
 use Rattle.camac_play.proofs.Sending.{sends_nothing}
 use Rattle.camac_play.specs.RunIo.{RunState, sent_in}
+use Rattle.camac_play.specs.Sent.{Outputs}
 use Rattle.camac_play.specs.declared.telling.Telling.{Telling}
 use Rattle.camac_play.specs.declared.telling.Telling.TheVariants.{Listing, Requests}
 use Rattle.camac_response_times.specs.Setting.{ReadsSettings}
@@ -23,7 +24,6 @@ use Rattle.camac_tool_run.proofs.Runs.{ends_before}
 use Rattle.camac_tool_host.specs.Apart.{IsApartFrom, Words}
 use Rattle.camac_tool.specs.Devices.{HasBeginning, IsKept, RunsOnDevices}
 use Rattle.camac_tool_host.specs.Streams.{device_of, given_to, held_in}
-use Rattle.camac_tool_run.specs.Headline.{JudgedKeeps}
 use Rattle.camac_tool.specs.Input.{HaveLong, IsJudgedIn}
 use Rattle.camac_tool.specs.Jobs.{DoesRun, Drives, HandsOn, IsGot, IsSaved, IsSettled, OrWriteFault, Responds, RunTells, RunsTold, TellsText, gathers}
 use Rattle.camac_tool_run.specs.Run.{Runs, RunsFound, RunsJudged, StaysQuiet}
@@ -89,18 +89,13 @@ module _ (Replied : (o given : Option (List ℕ)) → Result Done ToolFault → 
   faulted fault replied = (given, inl (subst (λ (x : Option (List ℕ)). Replied x given (Err fault)) same replied), (held, kept))
 
 -- before a run nothing is told
-module _ (bytes_of : Text → Option (List ℕ)) (finds : Text → Option FileId → Type 0) (begun : Option (List ℕ)) (w : Words) (o : Option (List ℕ)) where
-  pub none_run : (t : Telling) (fault : ToolFault) → ((fault ≡ Read) ⊎ (fault ≡ Write)) → RunsTold bytes_of finds begun w t begun o o (Err fault)
-  none_run t fault (inl is) = rw is (inl (Keeps-refl o))
-  none_run t fault (inr is) = rw is (inl (Keeps-refl o))
+module _ (bytes_of : Text → Option (List ℕ)) (finds : Text → Option FileId → Type 0) (w : Words) (a : Outputs) where
+  pub none_run : (t : Telling) (fault : ToolFault) → ((fault ≡ Read) ⊎ (fault ≡ Write)) → RunsTold bytes_of finds w t a a (Err fault)
+  none_run t fault (inl is) = rw is (inl (sends_nothing a))
+  none_run t fault (inr is) = rw is (inl (sends_nothing a))
 
-  pub not_begun : (saves : Option (List ℕ) → Bool) (fault : ToolFault) → ((fault ≡ Read) ⊎ (fault ≡ Write)) → DoesRun bytes_of finds begun w saves o o (Err fault)
-  not_begun saves fault is = (begun, (o, inl (none_run Listing fault is), beginning o o (Keeps-refl o)), tt)
-
-quiet : (o p : Option (List ℕ)) → Appends o p [] → Keeps o p
-quiet None p h = tt
-quiet (Some xs) None h = absurd h
-quiet (Some xs) (Some ys) h = h ∙ append-nil xs
+  pub not_begun : (saves : Option (List ℕ) → Bool) (fault : ToolFault) → ((fault ≡ Read) ⊎ (fault ≡ Write)) → DoesRun bytes_of finds w saves a a (Err fault)
+  not_begun saves fault is = (a, inl (none_run Listing fault is), beginning a.listing a.listing (Keeps-refl a.listing), beginning a.events a.events (Keeps-refl a.events), tt)
 
 abbrev done_of : Result Outcome ToolFault → Result Done ToolFault
 done_of (Ok outcome) = Ok (Answered outcome)
@@ -111,73 +106,66 @@ settles Ends (Ok outcome) done (inl is) ends = rw is ends
 settles Ends (Ok outcome) done (inr is) ends = rw is (inr (refl, (Ok (Answered outcome), ends)))
 settles Ends (Err fault) done is ends = rw is (inl ends)
 
--- a run in a world, and one on devices, of the words' inputs
-module _ (bytes_of : Text → Option (List ℕ)) (finds : Text → Option FileId → Type 0) (begun : Option (List ℕ)) (words : Words) (saves : Option (List ℕ) → Bool) (apart : IsApartFrom finds words)
-    {I : Type 0} (w : World I) (empty : w.outputs.events ≡ begun) (answered : Keeps (bytes_of words.answers) w.answers)
+-- a run in a world, and one on devices, of the words' inputs, where EVENTS held e
+module _ (bytes_of : Text → Option (List ℕ)) (finds : Text → Option FileId → Type 0) (e begun : Option (List ℕ)) (was : e ≡ begun) (words : Words) (saves : Option (List ℕ) → Bool) (apart : IsApartFrom finds words)
+    {I : Type 0} (w : World I) (held : w.outputs.events ≡ e) (answered : Keeps (bytes_of words.answers) w.answers)
     (judged : (w' : World I) (j : Judged) → HasJudged w.left w.plan w'.plan w.script w'.script j → IsJudgedIn bytes_of words.plan words.script j)
     (long : (w' : World I) → IsTooLong w.left w.plan w'.plan w.script w'.script → HaveLong bytes_of words.plan words.script) where
-  saved_as : (f g : Option (List ℕ)) (done : Result Done ToolFault) → Keeps f g → IfOk done (λ _. IsKept begun saves g) → IsSaved bytes_of finds begun saves f done
-  saved_as f g (Ok done) kept saved = (g, kept, saved)
-  saved_as f g (Err fault) kept saved = tt
+  abbrev from : Option (List ℕ) → Outputs
+  from x = record { listing = w.outputs.listing; events = x }
+
+  saved_as : (b : Outputs) (done : Result Done ToolFault) → IfOk done (λ _. IsKept begun saves b.events) → IsSaved bytes_of finds words saves (from e) b done
+  saved_as b (Ok done) saved = subst (λ x. IsKept x saves b.events) (sym was) saved
+  saved_as b (Err fault) saved = tt
 
   module _ (t : Telling) (same : w.gathers ≡ gathers t) where
-    abbrev RunIsTold : (f o p : Option (List ℕ)) → Result Done ToolFault → Type 0
-    RunIsTold = RunsTold bytes_of finds begun words t
+    abbrev RunIsTold : (b : Outputs) → Result Done ToolFault → Type 0
+    RunIsTold = RunsTold bytes_of finds words t w.outputs
 
-    found_told : (w' : World I) (r : Result Outcome ToolFault) → RunsFound w w' t r → RunTells bytes_of finds begun words t w'.outputs.events w.outputs.listing w'.outputs.listing r
+    found_told : (w' : World I) (r : Result Outcome ToolFault) → RunsFound w w' t r → RunTells bytes_of finds words t w.outputs w'.outputs r
     found_told w' r found = (
       apart,
       (
         found.0,
         judged w' found.0 found.1,
-        (
-          w.answers,
-          w'.answers,
-          answered,
-          subst (λ x. RunsJudged (gathers t) t found.0 w.answers w'.answers (record { listing = w.outputs.listing; events = x }) w'.outputs r) empty
-              (subst (λ (b : Bool). RunsJudged b t found.0 w.answers w'.answers w.outputs w'.outputs r) same found.2),
-        ),
+        (w.answers, w'.answers, answered, subst (λ (b : Bool). RunsJudged b t found.0 w.answers w'.answers w.outputs w'.outputs r) same found.2),
       ),
     )
 
-    run_told : (w' : World I) (r : Result Outcome ToolFault) → Runs w w' t r → RunIsTold w'.outputs.events w.outputs.listing w'.outputs.listing (done_of r)
-    run_told w' (Ok outcome) h = (
-      found_told w' (Ok outcome) h.runs,
-      (
-        h.headline.0,
-        judged w' h.headline.0 h.headline.1,
-        (w.answers, answered, subst (λ x. JudgedKeeps t h.headline.0 w.answers x w'.outputs.events (Ok outcome)) empty h.headline.2),
-      ),
-    )
-    run_told w' (Err Write) h = inr (found_told w' (Err Write) h.runs)
-    run_told w' (Err Memory) h = inl (quiet _ _ h.runs.1.listing)
-    run_told w' (Err TooLong) h = (long w' h.runs.0, quiet _ _ h.runs.1.1.listing)
-    run_told w' (Err Read) h = by h.runs
+    told : (w' : World I) (r : Result Outcome ToolFault) → Runs w w' t r → RunIsTold w'.outputs (done_of r)
+    told w' (Ok outcome) h =
+        (found_told w' (Ok outcome) h.runs, (h.headline.0, judged w' h.headline.0 h.headline.1, (w.answers, answered, h.headline.2)))
+    told w' (Err Write) h = inr (found_told w' (Err Write) h.runs)
+    told w' (Err Memory) h = inl h.runs.1
+    told w' (Err TooLong) h = (long w' h.runs.0, h.runs.1.1)
+    told w' (Err Read) h = by h.runs
       where
-        by : (StaysQuiet w w' ⊎ RunsFound w w' t (Err Read)) → RunIsTold w'.outputs.events w.outputs.listing w'.outputs.listing (Err Read)
-        by (inl still) = inl (quiet _ _ still.1.listing)
+        by : (StaysQuiet w w' ⊎ RunsFound w w' t (Err Read)) → RunIsTold w'.outputs (Err Read)
+        by (inl still) = inl still.1
         by (inr found) = inr (found_told w' (Err Read) found)
 
-  pub run_settled : w.gathers ≡ false → (w' : World I) (r : Result Outcome ToolFault) (done : Result Done ToolFault) → Runs w w' Requests r → IsSettled r done
-      → IfOk done (λ _. IsKept begun saves w'.outputs.events) → Drives bytes_of finds begun words saves w.outputs.listing w'.outputs.listing done
-  run_settled same w' r done h settled saved =
-      let f = w'.outputs.events in
-      (f, settles (RunsTold bytes_of finds begun words Requests f w.outputs.listing w'.outputs.listing) r done settled (run_told Requests same w' r h), saved_as f f done (Keeps-refl f) saved)
+    run_told : (w' : World I) (r : Result Outcome ToolFault) → Runs w w' t r → RunsTold bytes_of finds words t (from e) w'.outputs (done_of r)
+    run_told w' r h = subst (λ x. RunsTold bytes_of finds words t (from x) w'.outputs (done_of r)) held (told w' r h)
 
-  pub run_handed : w.gathers ≡ true → (after : RunState → World I) (l e : Option (List ℕ)) (r : Result Outcome ToolFault) (done : Result Done ToolFault) → ((s : RunState) → (after s).outputs ≡ sent_in s)
-      → RunsOnDevices w after l e r → IsSettled r done → IfOk done (λ _. IsKept begun saves e) → DoesRun bytes_of finds begun words saves w.outputs.listing l done
-  run_handed same after l e r done is (ran, given, runs, handed) settled saved = by handed.2
+  pub run_settled : w.gathers ≡ false → (w' : World I) (r : Result Outcome ToolFault) (done : Result Done ToolFault) → Runs w w' Requests r → IsSettled r done
+      → IfOk done (λ _. IsKept begun saves w'.outputs.events) → Drives bytes_of finds words saves (from e) w'.outputs done
+  run_settled same w' r done h settled saved =
+      (settles (RunsTold bytes_of finds words Requests (from e) w'.outputs) r done settled (run_told Requests same w' r h), saved_as w'.outputs done saved)
+
+  pub run_handed : w.gathers ≡ true → (after : RunState → World I) (b : Outputs) (r : Result Outcome ToolFault) (done : Result Done ToolFault) → ((s : RunState) → (after s).outputs ≡ sent_in s)
+      → RunsOnDevices w after b.listing b.events r → IsSettled r done → IfOk done (λ _. IsKept begun saves b.events) → DoesRun bytes_of finds words saves (from e) b done
+  run_handed same after b r done is (ran, given, runs, handed) settled saved = by handed.2
     where
       Told : Result Done ToolFault → Type 0
-      Told = RunsTold bytes_of finds begun words Listing given.recorded w.outputs.listing given.listed
+      Told = RunsTold bytes_of finds words Listing (from e) (sent_in given)
 
-      told : Told (done_of ran)
-      told = subst (λ x. RunsTold bytes_of finds begun words Listing x.events w.outputs.listing x.listing (done_of ran)) (is given) (run_told Listing same (after given) ran runs)
+      got : Told (done_of ran)
+      got = subst (λ x. RunsTold bytes_of finds words Listing (from e) x (done_of ran)) (is given) (run_told Listing same (after given) ran runs)
 
-      by : (((r ≡ ran) × Keeps given.listed l × Keeps given.recorded e) ⊎ (r ≡ Err Write)) → DoesRun bytes_of finds begun words saves w.outputs.listing l done
+      by : (((r ≡ ran) × Keeps given.listed b.listing × Keeps given.recorded b.events) ⊎ (r ≡ Err Write)) → DoesRun bytes_of finds words saves (from e) b done
       by (inl all) =
-          (given.recorded, (given.listed, settles Told ran done (subst (λ x. IsSettled x done) all.0 settled) told, is_got given.listed l done all.1), saved_as given.recorded e done all.2 saved)
-      by (inr failed) = rw (subst (λ x. IsSettled x done) failed settled) (given.recorded, (given.listed, inr (refl, (done_of ran, told)), handed.0), tt)
+          (sent_in given, settles Told ran done (subst (λ x. IsSettled x done) all.0 settled) got, is_got given.listed b.listing done all.1, is_got given.recorded b.events done all.2, saved_as b done saved)
+      by (inr failed) = rw (subst (λ x. IsSettled x done) failed settled) (sent_in given, inr (refl, (done_of ran, got)), handed.0, handed.1, tt)
 
 -- memory is out before a run
 pub no_run : {I : Type 0} (w : World I) (after : RunState → World I) (s : RunState) → after s ≡ w → RunsOnDevices w after s.listed s.recorded (Err Memory)

@@ -1,10 +1,11 @@
 -- What the devices of a run are given, and what EVENTS holds.
-use Rattle.std.specs.Prelude.{◌≡◌, ◌⊎◌, ℕ, Bool, true, List, Option, None, Some, Result, Err}
+use Rattle.std.specs.Prelude.{◌≡◌, ◌⊎◌, ℕ, Bool, true, List, Option, Result, Err}
 use Rattle.std.specs.Io.KnownBytes.{Keeps, append_known}
 use Rattle.camac_engines.specs.declared.fault.ToolFault.{ToolFault}
 use Rattle.camac_engines.specs.declared.fault.ToolFault.TheVariants.{Write}
 use Rattle.camac_engines.specs.declared.outcome.Outcome.{Outcome}
 use Rattle.camac_play.specs.RunIo.{RunState}
+use Rattle.camac_play.specs.Sent.{Outputs}
 use Rattle.camac_play.specs.declared.telling.Telling.TheVariants.{Listing}
 use Rattle.camac_tool_run.specs.Run.{Runs}
 use Rattle.camac_tool_run.specs.World.{World}
@@ -24,11 +25,10 @@ abbrev pub RunsOnDevices : {P : Type 0} → World P → (RunState → World P) �
 RunsOnDevices old after listed recorded outcome =
     (ran : Result Outcome ToolFault) × (given : RunState) × Runs old (after given) Listing ran × IsHandedOn given listed recorded ran outcome
 
--- what EVENTS holds: until it is made, what is there before its first byte
-abbrev pub bytes_in : {E : Type 0} → (begun : Option (List ℕ)) → (holds : E → Option (List ℕ)) → Option E → Option (List ℕ)
-bytes_in begun holds None = begun
-bytes_in begun holds (Some file) = holds file
+-- what an output and EVENTS hold
+abbrev pub outputs : {D E : Type 0} → (contents : D → Option (List ℕ)) → (holds : E → Option (List ℕ)) → D → E → Outputs
+outputs contents holds out events = record { listing = contents out; events = holds events }
 
 -- these bytes are on the disk, or nothing was written
 abbrev pub IsKept : (begun : Option (List ℕ)) → (saves : Option (List ℕ) → Bool) → Option (List ℕ) → Type 0
-IsKept begun saves bytes = (bytes ≡ begun) ⊎ (saves bytes ≡ true)
+IsKept begun saves bytes = Keeps begun bytes ⊎ (saves bytes ≡ true)

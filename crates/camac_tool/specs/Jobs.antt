@@ -1,10 +1,11 @@
 -- What a job tells its output, of the inputs that its words name, and how it ends.
-use Rattle.std.specs.Prelude.{◌≡◌, ◌⊎◌, ℕ, Bool, true, false, List, codes, map, Option, Some, None, Result, Ok, Err}
+use Rattle.std.specs.Prelude.{◌≡◌, ◌⊎◌, ℕ, Bool, true, false, List, [], codes, map, Option, Some, None, Result, Ok, Err}
 use Rattle.std.specs.Io.KnownBytes.{Keeps}
 use Rattle.clap.specs.Words.{Text}
 use Rattle.camac_event.specs.Reading.{file_at}
 use Rattle.camac_explain_rule.specs.Advice.{IsRuleOf}
 use Rattle.camac_explain_rule.specs.declared.rule.Rule.{Rule}
+use Rattle.camac_play.specs.Sent.{Outputs, Sends}
 use Rattle.camac_play.specs.declared.telling.Telling.{Telling}
 use Rattle.camac_play.specs.declared.telling.Telling.TheVariants.{Listing, Requests}
 use Rattle.camac_response_times.specs.Setting.{ReadsSettings}
@@ -89,6 +90,10 @@ IsGot given got (Err fault) = HasBeginning given got
 abbrev pub HandsOn : (Gives : (o given : Option (List ℕ)) → Result Done ToolFault → Type 0) → (o p : Option (List ℕ)) → Result Done ToolFault → Type 0
 HandsOn Gives o p r = (given : Option (List ℕ)) × OrWriteFault (Gives o given) r × IsGot given p r
 
+-- an output alone is told, and EVENTS holds what it held
+abbrev pub ToOutput : (Says : (o p : Option (List ℕ)) → Result Done ToolFault → Type 0) → (a b : Outputs) → Result Done ToolFault → Type 0
+ToOutput Says a b r = Says a.listing b.listing r × (b.events ≡ a.events)
+
 -- of each word the bytes of the input that it names
 module _ (bytes_of : Text → Option (List ℕ)) where
   -- of a plan; of a plan and a script; of an event file
@@ -121,55 +126,56 @@ module _ (bytes_of : Text → Option (List ℕ)) where
   Replies (question.Known line column turns plan script) = ScriptTells plan.now script.now (ask.ExplainAt line column turns.items)
   Replies (question.Response plan script every within) = Responds plan.now script.now (map (λ w. w.now) every.items) (map (λ w. w.now) within.items)
 
-  -- the system finds files by their names, and an EVENTS that it makes holds no bytes, where they are known
-  module _ (finds : Text → Option FileId → Type 0) (begun : Option (List ℕ)) where
-    module _ (w : Words) (telling : Telling) where
-      -- What was found of a plan and a script is run on these answers, and records an event file that ends as f. EVENTS is none of the inputs.
-      abbrev pub RunTells : (f o p : Option (List ℕ)) → Result Outcome ToolFault → Type 0
-      RunTells f o p r =
+  -- the system finds files by their names
+  module _ (finds : Text → Option FileId → Type 0) (w : Words) where
+    module _ (telling : Telling) (a b : Outputs) where
+      -- What was found of a plan and a script is run on these answers. EVENTS is none of the inputs.
+      abbrev pub RunTells : Result Outcome ToolFault → Type 0
+      RunTells r =
           IsApartFrom finds w × ((j : Judged) × IsJudgedIn bytes_of w.plan w.script j
-          × ((u v : Option (List ℕ)) × Keeps (bytes_of w.answers) u × RunsJudged (gathers telling) telling j u v (record { listing = o; events = begun }) (record { listing = p; events = f }) r))
+          × ((u v : Option (List ℕ)) × Keeps (bytes_of w.answers) u × RunsJudged (gathers telling) telling j u v a b r))
 
       -- the headline, of that event file
-      abbrev pub HasHeadline : (f : Option (List ℕ)) → Outcome → Type 0
-      HasHeadline f outcome =
-          (j : Judged) × IsJudgedIn bytes_of w.plan w.script j × ((u : Option (List ℕ)) × Keeps (bytes_of w.answers) u × JudgedKeeps telling j u begun f (Ok outcome))
+      abbrev pub HasHeadline : Outcome → Type 0
+      HasHeadline outcome =
+          (j : Judged) × IsJudgedIn bytes_of w.plan w.script j × ((u : Option (List ℕ)) × Keeps (bytes_of w.answers) u × JudgedKeeps telling j u a.events b.events (Ok outcome))
 
-      abbrev pub RunsTold : (f o p : Option (List ℕ)) → Result Done ToolFault → Type 0
-      RunsTold f o p (Ok (Answered outcome)) = RunTells f o p (Ok outcome) × HasHeadline f outcome
-      RunsTold f o p (Ok _) = ⊥
-      RunsTold f o p (Err TooLong) = HaveLong bytes_of w.plan w.script × Keeps o p
-      RunsTold f o p (Err fault) = Keeps o p ⊎ RunTells f o p (Err fault)
+      abbrev pub RunsTold : Result Done ToolFault → Type 0
+      RunsTold (Ok (Answered outcome)) = RunTells (Ok outcome) × HasHeadline outcome
+      RunsTold (Ok _) = ⊥
+      RunsTold (Err TooLong) = HaveLong bytes_of w.plan w.script × Sends a b []
+      RunsTold (Err fault) = Sends a b [] ⊎ RunTells (Err fault)
 
-    -- at the end without a fault EVENTS holds f, and is on the disk
-    abbrev pub IsSaved : (saves : Option (List ℕ) → Bool) → (f : Option (List ℕ)) → Result Done ToolFault → Type 0
-    IsSaved saves f (Ok done) = (g : Option (List ℕ)) × Keeps f g × IsKept begun saves g
-    IsSaved saves f (Err fault) = Unit {0}
+    module _ (saves : Option (List ℕ) → Bool) (a b : Outputs) where
+      -- at the end without a fault EVENTS is on the disk
+      abbrev pub IsSaved : Result Done ToolFault → Type 0
+      IsSaved (Ok done) = IsKept a.events saves b.events
+      IsSaved (Err fault) = Unit {0}
 
-    abbrev pub DoesRun : Words → (saves : Option (List ℕ) → Bool) → (o p : Option (List ℕ)) → Result Done ToolFault → Type 0
-    DoesRun w saves o p r = (f : Option (List ℕ)) × HandsOn (RunsTold w Listing f) o p r × IsSaved saves f r
+      -- its output and EVENTS have got what they were given
+      abbrev pub DoesRun : Result Done ToolFault → Type 0
+      DoesRun r = (given : Outputs) × OrWriteFault (RunsTold Listing a given) r × IsGot given.listing b.listing r × IsGot given.events b.events r × IsSaved r
 
-    abbrev pub Drives : Words → (saves : Option (List ℕ) → Bool) → (o p : Option (List ℕ)) → Result Done ToolFault → Type 0
-    Drives w saves o p r = (f : Option (List ℕ)) × OrWriteFault (RunsTold w Requests f o p) r × IsSaved saves f r
+      abbrev pub Drives : Result Done ToolFault → Type 0
+      Drives r = OrWriteFault (RunsTold Requests a b) r × IsSaved r
 
   -- what is on the disk is known by the words of a run
-  abbrev pub DoesJob : (finds : Text → Option FileId → Type 0) → (begun : Option (List ℕ)) → (saved : Words → Option (List ℕ) → Bool) → Job
-      → (o p : Option (List ℕ)) → Result Done ToolFault → Type 0
-  DoesJob finds begun saved (job.Plan plan) = HandsOn (PlanTells plan.now plan_ask.Lines)
-  DoesJob finds begun saved (job.Commands plan) = HandsOn (PlanTells plan.now plan_ask.Commands)
-  DoesJob finds begun saved (job.ExplainPlan plan) = HandsOn (PlanTells plan.now plan_ask.Explain)
-  DoesJob finds begun saved (job.ExplainRule code) = ExplainsRule code.now
-  DoesJob finds begun saved (job.Check plan script) = HandsOn (ScriptTells plan.now script.now ask.Check)
-  DoesJob finds begun saved (job.Explain plan script) = HandsOn (ScriptTells plan.now script.now ask.Explain)
-  DoesJob finds begun saved (job.ExplainBounds plan script) = HandsOn (ScriptTells plan.now script.now ask.ExplainBounds)
-  DoesJob finds begun saved (job.ExplainAt line column turns plan script) = HandsOn (ScriptTells plan.now script.now (ask.ExplainAt line column turns.items))
-  DoesJob finds begun saved (job.Bounds plan script) = HandsOn (ScriptTells plan.now script.now ask.Bounds)
-  DoesJob finds begun saved (job.Costs plan script) = HandsOn (ScriptTells plan.now script.now ask.Costs)
-  DoesJob finds begun saved (job.Tell plan script) = HandsOn (ScriptTells plan.now script.now ask.Tell)
-  DoesJob finds begun saved (job.Response plan script every within) =
-      HandsOn (Responds plan.now script.now (map (λ w. w.now) every.items) (map (λ w. w.now) within.items))
-  DoesJob finds begun saved (job.Events file) = HandsOn (EventsTell file.now)
-  DoesJob finds begun saved (job.Run plan script answers events) =
-      let w = run_words plan.now script.now answers.now events.now in DoesRun finds begun w (saved w)
-  DoesJob finds begun saved (job.Drive plan script events) =
-      let w = drive_words plan.now script.now events.now in Drives finds begun w (saved w)
+  abbrev pub DoesJob : (finds : Text → Option FileId → Type 0) → (saved : Words → Option (List ℕ) → Bool) → Job → (a b : Outputs) → Result Done ToolFault → Type 0
+  DoesJob finds saved (job.Plan plan) = ToOutput (HandsOn (PlanTells plan.now plan_ask.Lines))
+  DoesJob finds saved (job.Commands plan) = ToOutput (HandsOn (PlanTells plan.now plan_ask.Commands))
+  DoesJob finds saved (job.ExplainPlan plan) = ToOutput (HandsOn (PlanTells plan.now plan_ask.Explain))
+  DoesJob finds saved (job.ExplainRule code) = ToOutput (ExplainsRule code.now)
+  DoesJob finds saved (job.Check plan script) = ToOutput (HandsOn (ScriptTells plan.now script.now ask.Check))
+  DoesJob finds saved (job.Explain plan script) = ToOutput (HandsOn (ScriptTells plan.now script.now ask.Explain))
+  DoesJob finds saved (job.ExplainBounds plan script) = ToOutput (HandsOn (ScriptTells plan.now script.now ask.ExplainBounds))
+  DoesJob finds saved (job.ExplainAt line column turns plan script) = ToOutput (HandsOn (ScriptTells plan.now script.now (ask.ExplainAt line column turns.items)))
+  DoesJob finds saved (job.Bounds plan script) = ToOutput (HandsOn (ScriptTells plan.now script.now ask.Bounds))
+  DoesJob finds saved (job.Costs plan script) = ToOutput (HandsOn (ScriptTells plan.now script.now ask.Costs))
+  DoesJob finds saved (job.Tell plan script) = ToOutput (HandsOn (ScriptTells plan.now script.now ask.Tell))
+  DoesJob finds saved (job.Response plan script every within) =
+      ToOutput (HandsOn (Responds plan.now script.now (map (λ w. w.now) every.items) (map (λ w. w.now) within.items)))
+  DoesJob finds saved (job.Events file) = ToOutput (HandsOn (EventsTell file.now))
+  DoesJob finds saved (job.Run plan script answers events) =
+      let w = run_words plan.now script.now answers.now events.now in DoesRun finds w (saved w)
+  DoesJob finds saved (job.Drive plan script events) =
+      let w = drive_words plan.now script.now events.now in Drives finds w (saved w)

@@ -1,9 +1,9 @@
 -- The exit status, and the reason for it.
-use Rattle.std.specs.Prelude.{◌≡◌, ◌≤◌, ◌⊎◌, ℕ, List, Bool, true, Option, Result, Ok, Err}
-use Rattle.std.specs.Io.KnownBytes.{Keeps}
+use Rattle.std.specs.Prelude.{◌≡◌, ◌≤◌, ◌⊎◌, ℕ, List, [], Bool, true, Option, Result, Ok, Err}
 use Rattle.clap.specs.Words.{Text, kind_of, subcommand_of}
 use Rattle.clap.specs.declared.error.kind.ErrorKind.{ErrorKind}
 use Rattle.clap.specs.declared.error.kind.ErrorKind.TheVariants as kind
+use Rattle.camac_play.specs.Sent.{Outputs, Sends}
 use Rattle.camac_response_times.specs.declared.setting.Misuse.{Misuse}
 use Rattle.camac_response_times.specs.declared.setting.Misuse.TheVariants.{Form}
 use Rattle.camac_engines.specs.Engine.{is_write_fault, status_of}
@@ -42,11 +42,11 @@ EndsAs (Ok (Misused misuse)) s = EndsMisuse misuse s
 EndsAs (Ok (NoCode word)) s = s ≡ 2
 EndsAs (Err fault) s = EndsStopped fault s
 
--- A job whose output had o, and has p, and has failed or not, on such files. A fault of these had a cause.
-abbrev pub EndsJob : (bytes_of : Text → Option (List ℕ)) → (finds : Text → Option FileId → Type 0) → (begun : Option (List ℕ)) → (saved : Words → Option (List ℕ) → Bool) → (fails : Bool) → Job
-    → (o p : Option (List ℕ)) → (failed : Bool) → ℕ → Type 0
-EndsJob bytes_of finds begun saved fails job o p failed s =
-    (done : Result Done ToolFault) × DoesJob bytes_of finds begun saved job o p done × (is_write_fault done ≡ true → CanFail finds fails job failed)
+-- A job whose output and EVENTS had a, and have b, and whose output has failed or not. A fault had a cause.
+abbrev pub EndsJob : (bytes_of : Text → Option (List ℕ)) → (finds : Text → Option FileId → Type 0) → (saved : Words → Option (List ℕ) → Bool) → (fails : Bool) → Job
+    → (a b : Outputs) → (failed : Bool) → ℕ → Type 0
+EndsJob bytes_of finds saved fails job a b failed s =
+    (done : Result Done ToolFault) × DoesJob bytes_of finds saved job a b done × (is_write_fault done ≡ true → CanFail finds fails job failed)
     × (is_read_fault done ≡ true → CanBeUnread fails job) × EndsAs done s
 
 -- Of what `clap` answers in place of a job: out of memory; help or version, which end well unless they cannot be written, where a call of the host fails; a
@@ -63,8 +63,8 @@ EndsFault fails (Usage e) s = EndsUsage fails (kind_of e) s
 
 -- Of these words: of the job that they name, which takes standard input at most once. Or nothing is told: of their fault, or since there are no places for
 -- the standard streams, where a call of the host fails.
-abbrev pub Ends : (bytes_of : Text → Option (List ℕ)) → (finds : Text → Option FileId → Type 0) → (begun : Option (List ℕ)) → (saved : Words → Option (List ℕ) → Bool) → (fails : Bool) → List Text
-    → (o p : Option (List ℕ)) → (failed : Bool) → ℕ → Type 0
-Ends bytes_of finds begun saved fails words o p failed s =
-    ((job : Job) × IsJob job (subcommand_of camac_app words) × (input_count_of job ≤ 1) × EndsJob bytes_of finds begun saved fails job o p failed s)
-    ⊎ (Keeps o p × (((fault : JobFault) × IsFaultOf words fault × EndsFault fails fault s) ⊎ ((s ≡ 3) × (fails ≡ true))))
+abbrev pub Ends : (bytes_of : Text → Option (List ℕ)) → (finds : Text → Option FileId → Type 0) → (saved : Words → Option (List ℕ) → Bool) → (fails : Bool) → List Text
+    → (a b : Outputs) → (failed : Bool) → ℕ → Type 0
+Ends bytes_of finds saved fails words a b failed s =
+    ((job : Job) × IsJob job (subcommand_of camac_app words) × (input_count_of job ≤ 1) × EndsJob bytes_of finds saved fails job a b failed s)
+    ⊎ (Sends a b [] × (((fault : JobFault) × IsFaultOf words fault × EndsFault fails fault s) ⊎ ((s ≡ 3) × (fails ≡ true))))

@@ -7,7 +7,7 @@ ghost use Rattle.camac_tool_host.specs.Apart.{IsApartFrom, IsTakenBy, is_sample,
 ghost use Rattle.camac_tool.specs.Input.{IsInputOf};
 ghost use Rattle.camac_tool.specs.Jobs.{DoesJob, DoesRun, Drives, EventsTell, ExplainsRule, HandsOn, IsSettled, PlanTells, Replies, Responds, ScriptTells};
 ghost use Rattle.camac_tool.specs.Causes.{CanBeUnread, CanFail, RunCanFail, held_fault};
-ghost use Rattle.camac_tool.specs.Devices.{IsKept, bytes_in};
+ghost use Rattle.camac_tool.specs.Devices.{IsKept, outputs};
 ghost use Rattle.camac_tool.specs.Status.{Ends, EndsAs, EndsJob, EndsMisuse, EndsUsage};
 ghost use Rattle.camac_tool.specs.declared.launch.ArgumentsFault.TheVariants.{Memory, NotText};
 ghost use Rattle.camac_engines.specs.Engine.{is_write_fault};
@@ -53,24 +53,27 @@ const OF_CHECK: [&str; 5] = ["--strict", "--write", "--keeps", "--json", "--form
 
 /// Does what the words after the program's name ask for. Returns the exit status: 0 or 1 by the outcome, 2 where the words ask for nothing
 /// that is there, 3 for a fault, and 141 where a pipe was written that its reader closed. What a job tells goes to `out`, which is returned,
-/// and of which it is told whether a call has failed. Help and version go to standard output, and end with 0. A fault is a line on standard error, and below it its file and the reason.
+/// and of which it is told whether a call has failed. `events` is the EVENTS of a run, which is returned, too. Help and version go to standard
+/// output, and end with 0. A fault is a line on standard error, and below it its file and the reason.
 pub fn exit_status<R: Host + Eprint + AllocGlobal, W: Write + Drop>(
     rt: &R,
     words: &[String],
     out: W,
-) -> (u8, Watched<W>)
-    ensures { Ends (R.bytes_of rt.now) (R.finds rt.now) (R.begun rt.now) (R.saved rt.now) (R.fails rt.now) (map string_bytes words.now) (W.contents out) (W.contents (inner_of result.1)) (has_failed result.1) result.0 }
+    events: R::Events,
+) -> (u8, Watched<W>, R::Events)
+    ensures { Ends (R.bytes_of rt.now) (R.finds rt.now) (R.saved rt.now) (R.fails rt.now) (map string_bytes words.now) (outputs W.contents R.holds out events) (outputs W.contents R.holds (inner_of result.1) result.2) (has_failed result.1) result.0 }
 {
-    serve_words::<Brand, R, Watched<W>>(rt, words, Watched::new(out))
+    serve_words::<Brand, R, Watched<W>>(rt, words, Watched::new(out), events)
 }
 
 fn serve_words<K: Failing, R: Host + Eprint + AllocGlobal, D: Device + Drop>(
     rt: &R,
     words: &[String],
     out: D,
-) -> (u8, D)
+    events: R::Events,
+) -> (u8, D, R::Events)
     requires { R.fails rt.now ≡ K.fails }
-    ensures { Ends (R.bytes_of rt.now) (R.finds rt.now) (R.begun rt.now) (R.saved rt.now) (R.fails rt.now) (map string_bytes words.now) (D.contents out) (D.contents result.1) (D.failed result.1) result.0 }
+    ensures { Ends (R.bytes_of rt.now) (R.finds rt.now) (R.saved rt.now) (R.fails rt.now) (map string_bytes words.now) (outputs D.contents R.holds out events) (outputs D.contents R.holds result.1 result.2) (D.failed result.1) result.0 }
 {
     let failure = Failure::none();
     let tool = Tool::<'_, '_, '_, R, K> {
@@ -80,12 +83,12 @@ fn serve_words<K: Failing, R: Host + Eprint + AllocGlobal, D: Device + Drop>(
     };
     let _places = match rt.hold_places() {
         Ok(places) => places,
-        Err(why) => return (failure.tell(rt, failure.read("/", why)), out),
+        Err(why) => return (failure.tell(rt, failure.read("/", why)), out, events),
     };
     match read_words(rt.alloc(), words) {
-        Ok(job) => tool.serve(job, out),
-        Err(JobFault::InTwice) => (tool.misused("fault @in twice"), out),
-        Err(JobFault::Usage(error)) => (tool.print_usage(error, words), out),
+        Ok(job) => tool.serve(job, out, events),
+        Err(JobFault::InTwice) => (tool.misused("fault @in twice"), out, events),
+        Err(JobFault::Usage(error)) => (tool.print_usage(error, words), out, events),
     }
 }
 
@@ -132,23 +135,29 @@ struct Tool<'r, 'f, 'a, R: Host, K: Failing> {
 }
 
 impl<'r, 'f, 'a, R: Host + Eprint + AllocGlobal, K: Failing> Tool<'r, 'f, 'a, R, K> {
-    fn serve<D: Device + Drop>(&self, job: Job<'a>, out: D) -> (u8, D)
-        ensures { EndsJob (R.bytes_of self.now.rt.now) (R.finds self.now.rt.now) (R.begun self.now.rt.now) (R.saved self.now.rt.now) (R.fails self.now.rt.now) job.entry (D.contents out) (D.contents result.1) (D.failed result.1) result.0 }
+    fn serve<D: Device + Drop>(&self, job: Job<'a>, out: D, events: R::Events) -> (u8, D, R::Events)
+        ensures { EndsJob (R.bytes_of self.now.rt.now) (R.finds self.now.rt.now) (R.saved self.now.rt.now) (R.fails self.now.rt.now) job.entry (outputs D.contents R.holds out events) (outputs D.contents R.holds result.1 result.2) (D.failed result.1) result.0 }
     {
         let is_swapped = is_swapped(&job);
-        let (done, out) = self.do_job(job, Named::new(out, STANDARD_OUTPUT, self.failure));
+        let out = Named::new(out, STANDARD_OUTPUT, self.failure);
+        let (done, out, events) = self.do_job(job, out, events);
         if is_swapped && let Ok(Done::Answered(Outcome::Refused)) = &done {
             let _ = eprintln!(self.rt; "  PLAN comes first, then SCRIPT");
         }
-        (self.finished(done), out.device)
+        (self.finished(done), out.device, events)
     }
 
-    fn do_job<D: Device + Drop>(&self, job: Job<'a>, out: D) -> (Result<Done<'a>, ToolFault>, D)
-        ensures does { DoesJob (R.bytes_of self.now.rt.now) (R.finds self.now.rt.now) (R.begun self.now.rt.now) (R.saved self.now.rt.now) job.entry (D.contents out) (D.contents result.1) result.0 }
+    fn do_job<D: Device + Drop>(
+        &self,
+        job: Job<'a>,
+        out: D,
+        events: R::Events,
+    ) -> (Result<Done<'a>, ToolFault>, D, R::Events)
+        ensures does { DoesJob (R.bytes_of self.now.rt.now) (R.finds self.now.rt.now) (R.saved self.now.rt.now) job.entry (outputs D.contents R.holds out events) (outputs D.contents R.holds result.1 result.2) result.0 }
         ensures cause { is_write_fault result.0 ≡ true → CanFail (R.finds self.now.rt.now) (R.fails self.now.rt.now) job.entry (D.failed result.1) }
         ensures unread { is_read_fault result.0 ≡ true → CanBeUnread (R.fails self.now.rt.now) job.entry }
     {
-        match job {
+        let (done, out) = match job {
             Job::Plan(plan) => self.gather(Question::Plan(PlanAsk::Lines, plan), out),
             Job::Commands(plan) => self.gather(Question::Plan(PlanAsk::Commands, plan), out),
             Job::ExplainPlan(plan) => self.gather(Question::Plan(PlanAsk::Explain, plan), out),
@@ -166,15 +175,16 @@ impl<'r, 'f, 'a, R: Host + Eprint + AllocGlobal, K: Failing> Tool<'r, 'f, 'a, R,
                 self.gather(Question::Response(plan, script, every, within), out)
             }
             Job::Events(file) => self.list_events(file, out),
-            Job::Run(plan, script, answers, events) => {
-                let words = RunWords::new(plan, script, answers, events, Earlier::Emptied);
-                self.run::<Brand, D>(words, out)
+            Job::Run(plan, script, answers, name) => {
+                let words = RunWords::new(plan, script, answers, name, Earlier::Emptied);
+                return self.run::<Brand, D>(words, out, events);
             }
-            Job::Drive(plan, script, events) => {
-                let words = RunWords::new(plan, script, "@in", events, Earlier::Refused);
-                self.drive::<Brand, D>(words, out)
+            Job::Drive(plan, script, name) => {
+                let words = RunWords::new(plan, script, "@in", name, Earlier::Refused);
+                return self.drive::<Brand, D>(words, out, events);
             }
-        }
+        };
+        (done, out, events)
     }
 
     fn ask<D: Device + Drop>(
@@ -358,31 +368,33 @@ impl<'r, 'f, 'a, R: Host + Eprint + AllocGlobal, K: Failing> Tool<'r, 'f, 'a, R,
         &self,
         words: RunWords<'a>,
         out: D,
-    ) -> (Result<Done<'a>, ToolFault>, D)
-        requires begun { R.begun self.now.rt.now ≡ S.begun }
+        events: R::Events,
+    ) -> (Result<Done<'a>, ToolFault>, D, R::Events)
+        requires begun { R.holds events ≡ S.begun }
         requires saves { (bytes : Option (List ℕ)) → R.saved self.now.rt.now (words_of words) bytes ≡ S.saves bytes }
-        ensures does { DoesRun (R.bytes_of self.now.rt.now) (R.finds self.now.rt.now) S.begun (words_of words.entry) S.saves (D.contents out) (D.contents result.1) result.0 }
+        ensures does { DoesRun (R.bytes_of self.now.rt.now) (R.finds self.now.rt.now) (words_of words.entry) S.saves (outputs D.contents R.holds out events) (outputs D.contents R.holds result.1 result.2) result.0 }
         ensures cause { is_write_fault result.0 ≡ true → RunCanFail (R.finds self.now.rt.now) (R.fails self.now.rt.now) (words_of words.entry) (D.failed result.1) }
         ensures unread { is_read_fault result.0 ≡ true → R.fails self.now.rt.now ≡ true }
     {
         let (plan, mut script, lines) = match self.open_run(&words) {
             Ok(inputs) => inputs,
-            Err(fault) => return (Err(fault), out),
+            Err(fault) => return (Err(fault), out, events),
         };
-        let (answers, events) = (words.answers, words.events);
-        let file = NewFile::<'_, R, K, S>::named(self.rt, words);
+        let (answers, name) = (words.answers, words.events);
+        let file = NewFile::<'_, R, K, S>::named(self.rt, words, events);
         let ran = run_on_devices(
             self.rt.alloc(),
             &mut source_of(plan),
             &mut script,
             lines,
             out,
-            Named::new(file, events, self.failure),
+            Named::new(file, name, self.failure),
         );
         if let Some(line) = &ran.refused {
             line.tell(self.rt, answers);
         }
-        (settled(ran.outcome, &ran.records), ran.listing)
+        let done = settled(ran.outcome, &ran.records);
+        (done, ran.listing, ran.records.device.events)
     }
 
     // A request goes out in one write to a writer that keeps nothing back, and no answer is read ahead of its request.
@@ -390,23 +402,24 @@ impl<'r, 'f, 'a, R: Host + Eprint + AllocGlobal, K: Failing> Tool<'r, 'f, 'a, R,
         &self,
         words: RunWords<'a>,
         out: D,
-    ) -> (Result<Done<'a>, ToolFault>, D)
-        requires begun { R.begun self.now.rt.now ≡ S.begun }
+        events: R::Events,
+    ) -> (Result<Done<'a>, ToolFault>, D, R::Events)
+        requires begun { R.holds events ≡ S.begun }
         requires saves { (bytes : Option (List ℕ)) → R.saved self.now.rt.now (words_of words) bytes ≡ S.saves bytes }
-        ensures does { Drives (R.bytes_of self.now.rt.now) (R.finds self.now.rt.now) S.begun (words_of words.entry) S.saves (D.contents out) (D.contents result.1) result.0 }
+        ensures does { Drives (R.bytes_of self.now.rt.now) (R.finds self.now.rt.now) (words_of words.entry) S.saves (outputs D.contents R.holds out events) (outputs D.contents R.holds result.1 result.2) result.0 }
         ensures cause { is_write_fault result.0 ≡ true → RunCanFail (R.finds self.now.rt.now) (R.fails self.now.rt.now) (words_of words.entry) (D.failed result.1) }
         ensures unread { is_read_fault result.0 ≡ true → R.fails self.now.rt.now ≡ true }
     {
         let (plan, mut script, answers) = match self.open_run(&words) {
             Ok(inputs) => inputs,
-            Err(fault) => return (Err(fault), out),
+            Err(fault) => return (Err(fault), out, events),
         };
-        let events = words.events;
-        let file = NewFile::<'_, R, K, S>::named(self.rt, words);
+        let name = words.events;
+        let file = NewFile::<'_, R, K, S>::named(self.rt, words, events);
         let mut io = Live {
             answers,
             requests: Whole(out),
-            records: Whole(Named::new(file, events, self.failure)),
+            records: Whole(Named::new(file, name, self.failure)),
         };
         let outcome = run_over(
             self.rt.alloc(),
@@ -420,7 +433,8 @@ impl<'r, 'f, 'a, R: Host + Eprint + AllocGlobal, K: Failing> Tool<'r, 'f, 'a, R,
             records,
             ..
         } = io;
-        (settled(outcome, &records.0), requests.0)
+        let done = settled(outcome, &records.0);
+        (done, requests.0, records.0.device.events)
     }
 
     // The plan, the script and the answers of a run, none of which is EVENTS.
@@ -566,7 +580,7 @@ fn settled<'a, R: Host, K: Failing, S: Saving>(
     events: &Named<'_, '_, NewFile<'_, R, K, S>>,
 ) -> Result<Done<'a>, ToolFault>
     ensures ended { IsSettled outcome result }
-    ensures saved { IfOk result (λ _. IsKept S.begun S.saves (bytes_in S.begun R.holds events.now.device.file)) }
+    ensures saved { IfOk result (λ _. IsKept S.begun S.saves (R.holds events.now.device.events)) }
     ensures cause { is_write_fault result ≡ true → (is_write_fault outcome ≡ true) ⊎ (K.fails ≡ true) }
     ensures read { is_read_fault result ≡ true → is_read_fault outcome ≡ true }
 {

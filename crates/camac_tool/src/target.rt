@@ -1,13 +1,10 @@
 // The event file of a run. Nothing but an older event file is lost by it, and no run ends well before it is on the disk.
 
 ghost use Rattle.std.specs.Prelude.{◌≡◌, ◌⊎◌, ◌↔◌, ℕ, Bool, true, false, List, Option, None, IfErr, IfOk, IsOk, IsOkAnd, OnErr, codes};
-ghost use Rattle.std.specs.Io.{WritesAtMost};
-ghost use Rattle.std.specs.Io.KnownBytes.{WriteAppends};
-ghost use Rattle.std.specs.Option.{ForSome};
+ghost use Rattle.std.specs.Io.KnownBytes.{Keeps};
 ghost use Rattle.camac_tool_host.specs.Apart.{Differs, DiffersFromOutputs, IsApart, IsApartFrom, IsNamed, IsTaken, Meets, PlanDiffers, PlanMeets, is_same, words_of};
-ghost use Rattle.camac_tool.specs.Devices.{IsKept, bytes_in};
+ghost use Rattle.camac_tool.specs.Devices.{IsKept};
 ghost use Rattle.camac_engines.specs.declared.fault.ToolFault.TheVariants.{Write as write-fault};
-ghost use Rattle.camac_word.specs.Watched.{is_write_failure};
 
 use crate::failure::{Failing, Failure, Named};
 use crate::input::InputReader;
@@ -107,7 +104,7 @@ impl<'a> There<'_, 'a> {
     }
 }
 
-/// For the proof of a run alone: what EVENTS holds when it is made, and what of it is known to be on the disk.
+/// For the proof of a run alone: what EVENTS holds before it, and what of it is known to be on the disk.
 pub trait Saving {
     ghost begun: { Option (List ℕ) };
 
@@ -125,63 +122,47 @@ impl Saving for Brand {
 pub struct NewFile<'a, H: Host, K: Failing, S: Saving> {
     host: &'a H,
     words: RunWords<'a>,
-    file: Option<H::Events>,
+    pub events: H::Events,
     failed: bool,
     of: PhantomData<(K, S)>,
     ghost apart: { ∥ IsApartFrom (H.finds host.now) (words_of words) ∥₁ },
-    ghost begun: { H.begun host.now ≡ S.begun },
     ghost saves: { (bytes : Option (List ℕ)) → H.saved host.now (words_of words) bytes ≡ S.saves bytes },
     ghost fails: { H.fails host.now ≡ K.fails },
     ghost cause: { failed ≡ true → K.fails ≡ true },
-    ghost made: { ForSome file (λ f. H.made host.now (words_of words) f ≡ true) },
+    ghost made: { Keeps S.begun (H.holds events) ⊎ (H.made host.now (words_of words) events ≡ true) },
 }
 
 impl<'a, H: Host, K: Failing, S: Saving> NewFile<'a, H, K, S> {
-    pub fn named(host: &'a H, words: RunWords<'a>) -> NewFile<'a, H, K, S>
+    pub fn named(host: &'a H, words: RunWords<'a>, events: H::Events) -> NewFile<'a, H, K, S>
         requires apart { IsApartFrom (H.finds host.now) (words_of words) }
-        requires begun { H.begun host.now ≡ S.begun }
+        requires begun { H.holds events ≡ S.begun }
         requires saves { (bytes : Option (List ℕ)) → H.saved host.now (words_of words) bytes ≡ S.saves bytes }
         requires fails { H.fails host.now ≡ K.fails }
-        ensures none { result.file ≡ None }
+        ensures events { result.events ≡ events }
         ensures works { result.failed ≡ false }
     {
         NewFile {
             host,
             words,
-            file: None,
+            events,
             failed: false,
             of: PhantomData,
         }
     }
-
-    // Writes to the file, which is made with its first byte.
-    fn put(&mut self, bytes: &[u8]) -> io::Result<usize>
-        ensures bound { WritesAtMost result bytes.now }
-        ensures bytes { WriteAppends (bytes_in S.begun H.holds self.old.file) (bytes_in S.begun H.holds self.new.file) result bytes.now }
-        ensures same { self.new.failed ≡ self.old.failed }
-        ensures cause { is_write_failure result bytes.now ≡ true → K.fails ≡ true }
-    {
-        if let Some(file) = &mut self.file {
-            return self.host.put(file, bytes);
-        }
-        if bytes.is_empty() {
-            return Ok(0);
-        }
-        let (file, taken) = self.host.make(&self.words, bytes)?;
-        self.file = Some(file);
-        Ok(taken)
-    }
 }
 
 impl<H: Host, K: Failing, S: Saving> Device for NewFile<'_, H, K, S> {
-    ghost contents = { λ n. bytes_in S.begun H.holds n.file };
+    ghost contents = { λ n. H.holds n.events };
 
     ghost failed = { λ n. n.failed };
 
     fn write_some(&mut self, bytes: &[u8]) -> io::Result<usize> {
-        let result = self.put(bytes);
+        if bytes.is_empty() {
+            return Ok(0);
+        }
+        let result = self.host.put(&mut self.events, &self.words, bytes);
         let took_nothing = match &result {
-            Ok(taken) => *taken == 0 && !bytes.is_empty(),
+            Ok(taken) => *taken == 0,
             Err(_) => true,
         };
         self.failed = self.failed || took_nothing;
@@ -202,14 +183,11 @@ impl<H: Host, K: Failing, S: Saving> Device for NewFile<'_, H, K, S> {
 pub fn settle<H: Host, K: Failing, S: Saving>(
     events: &Named<'_, '_, NewFile<'_, H, K, S>>,
 ) -> Result<(), ToolFault>
-    ensures saved { IfOk result (λ _. IsKept S.begun S.saves (bytes_in S.begun H.holds events.now.device.file)) }
+    ensures saved { IfOk result (λ _. IsKept S.begun S.saves (H.holds events.now.device.events)) }
     ensures fault { IfErr result (λ fault. fault ≡ write-fault) }
     ensures cause { OnErr result (K.fails ≡ true) }
 {
-    let Some(file) = &events.device.file else {
-        return Ok(());
-    };
-    match events.device.host.sync(file) {
+    match events.device.host.sync(&events.device.events) {
         Ok(()) => Ok(()),
         Err(why) => Err(events.write_fault(why)),
     }

@@ -8,8 +8,8 @@ use Rattle.camac_event.specs.Spelling.{header}
 use Rattle.camac_event.specs.declared.event.Version.TheVariants.{One, Two}
 use Rattle.camac_tool_host.specs.declared.host.Earlier.{Earlier}
 use Rattle.camac_tool_host.specs.declared.host.Earlier.TheVariants.{Emptied, Refused}
-use Rattle.camac_tool_host.specs.declared.system.Input.{Input}
-use Rattle.camac_tool_host.specs.declared.system.Input.TheVariants.{Standard, File}
+use Rattle.camac_tool_host.specs.declared.files.Input.{Input}
+use Rattle.camac_tool_host.specs.declared.files.Input.TheVariants.{Standard, File}
 
 -- what the reader in an input has left
 abbrev pub left_in : {S F : Type 0} → (S → Option (List ℕ)) → (F → Option (List ℕ)) → Input S F → Option (List ℕ)

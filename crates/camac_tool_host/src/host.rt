@@ -1,8 +1,8 @@
 // What the program wants of its system: the inputs that words name, and EVENTS.
 
-ghost use Rattle.std.specs.Prelude.{◌≡◌, ◌≤◌, ◌<◌, Bool, true, IfOk, OnErr, List, ℕ, None, Option, Some, length, take, ⊤};
+ghost use Rattle.std.specs.Prelude.{◌≡◌, ◌<◌, Bool, true, IfOk, OnErr, List, ℕ, None, Option, Some, length, ⊤};
 ghost use Rattle.std.specs.Io.{ReadsAtMost, WritesAtMost};
-ghost use Rattle.std.specs.Io.KnownBytes.{Appends, Keeps, ReadConsumes, WriteAppends};
+ghost use Rattle.std.specs.Io.KnownBytes.{Keeps, ReadConsumes, WriteAppends};
 ghost use Rattle.camac_tool_host.specs.Apart.{IsApartFrom, Opens, Words, words_of};
 ghost use Rattle.camac_tool_host.specs.declared.host.FileId.{FileId};
 ghost use Rattle.camac_word.specs.Watched.{is_write_failure};
@@ -60,6 +60,7 @@ pub trait Host {
 
     type Input: Drop;
 
+    /// EVENTS, which is opened and emptied before its first byte.
     type Events: Drop;
 
     /// Of each word the bytes of the input that it names, where they are known.
@@ -74,10 +75,8 @@ pub trait Host {
     /// Which file an input reads.
     ghost reads: { Self → Self.Input → FileId → Type 0 } = { λ _ _ _. ⊤ };
 
-    /// What an EVENTS holds, and what it holds before its first byte, where the bytes of files are known.
+    /// What was written to EVENTS, where the bytes of files are known.
     ghost holds: { Self.Events → Option (List ℕ) } = { λ _. None };
-
-    ghost begun: { Self → Option (List ℕ) } = { λ _. None };
 
     /// This EVENTS was made for the words.
     ghost made: { Self → Words → Self.Events → Bool } = { λ _ _ _. true };
@@ -104,24 +103,23 @@ pub trait Host {
         ensures bytes { ReadConsumes (left input.old) (left input.new) result buf.new }
         ensures fails { OnErr result (fails self.now ≡ true) };
 
-    /// Opens EVENTS, empties it, and writes its first bytes. The words' files were compared before. It has failed also where it took nothing.
-    fn make(&self, words: &RunWords<'_>, first: &[u8]) -> io::Result<(Self::Events, usize)>
+    /// Writes bytes to EVENTS, as `write` does. Before the first it is made: opened, and emptied. The words' files were compared before. It has
+    /// failed also where it took nothing.
+    fn put(
+        &self,
+        events: &mut Self::Events,
+        words: &RunWords<'_>,
+        bytes: &[u8],
+    ) -> io::Result<usize>
         requires apart { ∥ IsApartFrom (finds self.now) (words_of words.now) ∥₁ }
-        requires first { 0 < length first.now }
-        ensures made { IfOk result (λ new. made self.now (words_of words.now) new.0 ≡ true) }
-        ensures bound { IfOk result (λ new. new.1 ≤ length first.now) }
-        ensures bytes { IfOk result (λ new. Appends (begun self.now) (holds new.0) (take new.1 first.now)) }
-        ensures fails { OnErr result (fails self.now ≡ true) }
-        ensures nothing { IfOk result (λ new. new.1 ≡ 0 → fails self.now ≡ true) };
-
-    /// Writes further bytes to EVENTS, as `write` does. It has failed also where it took nothing.
-    fn put(&self, events: &mut Self::Events, bytes: &[u8]) -> io::Result<usize>
-        ensures made { (w : Words) → made self.now w events.old ≡ true → made self.now w events.new ≡ true }
+        requires some { 0 < length bytes.now }
+        ensures made { IfOk result (λ _. made self.now (words_of words.now) events.new ≡ true) }
+        ensures remains { (w : Words) → made self.now w events.old ≡ true → made self.now w events.new ≡ true }
         ensures bound { WritesAtMost result bytes.now }
         ensures bytes { WriteAppends (holds events.old) (holds events.new) result bytes.now }
         ensures fails { is_write_failure result bytes.now ≡ true → fails self.now ≡ true };
 
-    /// Waits until EVENTS is on its disk, where it is a regular file.
+    /// Waits until EVENTS is on its disk, where it was made, and is a regular file.
     fn sync(&self, events: &Self::Events) -> io::Result<()>
         ensures saved { IfOk result (λ _. (w : Words) → made self.now w events.now ≡ true → saved self.now w (holds events.now) ≡ true) }
         ensures fails { OnErr result (fails self.now ≡ true) };

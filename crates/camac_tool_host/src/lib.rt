@@ -5,6 +5,7 @@
 mod ahead;
 mod answer_line;
 mod device;
+mod files;
 mod gathered;
 mod host;
 mod live;

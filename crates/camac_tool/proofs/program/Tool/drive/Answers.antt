@@ -5,12 +5,13 @@ use Rattle.camac_tool.proofs.Caused.{of_readers, of_run, raised}
 use Rattle.camac_tool.proofs.Ended.{none_run, run_settled}
 use Rattle.camac_tool.proofs.Inputs.{judged_read, long_read}
 use Rattle.camac_tool_host.specs.Apart.{words_of}
-use Rattle.camac_tool.specs.Devices.{bytes_in}
+use Rattle.camac_tool.specs.Devices.{outputs}
 use Rattle.camac_tool.proofs.program.Tool.drive.Goals as goal
 
 pub returns-in-Err-clause-does : goal.returns-in-Err-clause-does
 returns-in-Err-clause-does g c =
-    (g.S.Saving.begun, inl (none_run (g.R.Host.bytes_of c.args.self.now.rt.now) (g.R.Host.finds c.args.self.now.rt.now) g.S.Saving.begun (words_of c.args.words) _ Requests _ c.in-Err.ensures.fault), tt)
+    let a = outputs g.D.Device.contents g.R.Host.holds c.args.out c.args.events in
+    (inl (none_run (g.R.Host.bytes_of c.args.self.now.rt.now) (g.R.Host.finds c.args.self.now.rt.now) (words_of c.args.words) a Requests _ c.in-Err.ensures.fault), tt)
 
 pub returns-in-Err-clause-cause : goal.returns-in-Err-clause-cause
 returns-in-Err-clause-cause g c failed = inr (c.in-Err.ensures.cause failed)
@@ -18,9 +19,8 @@ returns-in-Err-clause-cause g c failed = inr (c.in-Err.ensures.cause failed)
 pub returns-clause-does : goal.returns-clause-does
 returns-clause-does g c =
     let bytes_of = g.R.Host.bytes_of c.args.self.now.rt.now in
-    let empty : bytes_in g.S.Saving.begun g.R.Host.holds c.new.result.device.file ≡ g.S.Saving.begun = rw (c.new.ensures, c.named-file.ensures.none) refl in
-    run_settled bytes_of (g.R.Host.finds c.args.self.now.rt.now) g.S.Saving.begun (words_of c.args.words) g.S.Saving.saves c.in-Ok.ensures.apart _ empty
-    c.in-Ok.ensures.answers
+    let held : g.R.Host.holds c.new.result.device.events ≡ g.R.Host.holds c.args.events = rw (c.new.ensures, c.named-file.ensures.events) refl in
+    run_settled bytes_of (g.R.Host.finds c.args.self.now.rt.now) _ g.S.Saving.begun c.requires.begun (words_of c.args.words) g.S.Saving.saves c.in-Ok.ensures.apart _ held c.in-Ok.ensures.answers
     (λ after j h. judged_read bytes_of c.args.words.plan.now c.args.words.script.now _ c.in-Ok.inputs.0 _ _ _ _ c.in-Ok.ensures.plan c.source_of.ensures c.in-Ok.ensures.script j h)
     (λ after h. long_read bytes_of c.args.words.plan.now c.args.words.script.now _ c.in-Ok.inputs.0 _ _ _ _ c.in-Ok.ensures.plan c.source_of.ensures c.in-Ok.ensures.script h)
     refl _ c.run_over-outcome.result c.settled.result c.run_over-outcome.ensures.runs c.settled.ensures.ended c.settled.ensures.saved
