@@ -78,9 +78,9 @@ def make(folder, library=None, is_link=False):
     name = f"camac-{version}-{tag}.whl"
     with zipfile.ZipFile(os.path.join(folder, name), "w", zipfile.ZIP_DEFLATED) as wheel:
         for path, data in files.items():
-            its = zipfile.ZipInfo(path, TIME)
-            its.compress_type, its.external_attr = zipfile.ZIP_DEFLATED, 0o644 << 16
-            wheel.writestr(its, data)
+            entry = zipfile.ZipInfo(path, TIME)
+            entry.compress_type, entry.external_attr = zipfile.ZIP_DEFLATED, 0o644 << 16
+            wheel.writestr(entry, data)
     return name
 
 

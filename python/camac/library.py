@@ -359,8 +359,8 @@ class Session:
         wants the rest, which is left out. Raises what `next` raises if the first is not taken, and UsageFault if members and answers do not fit."""
         listed, answers, taken = list(wants), [list(it) for it in made], c_size_t()
         listed = listed[: len(answers)]
-        for want, its in itertools.zip_longest(listed, answers):
-            if want is None or not (its if want.kind == BLOCK else len(its) == (want.kind != UNLOCK)):
+        for want, cycles in itertools.zip_longest(listed, answers):
+            if want is None or not (cycles if want.kind == BLOCK else len(cycles) == (want.kind != UNLOCK)):
                 raise UsageFault(NO_LIST, 2)
         structs, did = _answers(list(itertools.chain(*answers))), (Progress * (len(listed) + 1))()
         did[0].size = ctypes.sizeof(Progress)
