@@ -104,6 +104,13 @@ class Full(Case):
         ran = subprocess.run([*self.apart, text], capture_output=True, cwd=self.room, env={**os.environ, "camac": PROGRAM}, timeout=60)
         return ran.returncode, ran.stdout, ran.stderr
 
+    def test_one_number_on_two_disks(self):
+        """EVENTS is no input where both have one number, each on a disk of its own."""
+        line = "cp answers small/ && mkdir other && mount -t tmpfs none other && touch other/e && stat -c %i small/answers other/e"
+        status, out, err = self.apart_shell(f"{line} && $camac run plan.toml straight.script small/answers other/e")
+        first, second, listing = out.split(b"\n", 2)
+        self.assertEqual((status, first, listing, err), (0, second, LISTING, b""))
+
     def whole(self):
         """The listing and the event file of 4,000 events, with room."""
         (self.room / "answers").write_bytes(b"1 1 000001 0 000004\n" * 8000)

@@ -246,6 +246,8 @@ class Files(Case):
         for words in (["none", "straight.script", "answers"], ["@sample", "none", "answers"], ["@sample", "straight.script", "none"]):
             self.assertEqual(self.call("run", *words, "e"), (3, b"", lacks("none")), words)
             self.assertFalse((self.room / "e").exists(), words)
+        for words in (["none", "2", "3"], ["@sample", "none", "3"]):
+            self.assertEqual(self.call("run", *words, "e"), (3, b"", lacks("none")), words)
 
     def test_events_that_cannot_be_made(self):
         for name, why in (("none/e", errno.ENOENT), (".", errno.EISDIR), ("straight.script/e", errno.ENOTDIR)):
