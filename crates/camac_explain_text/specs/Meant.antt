@@ -11,13 +11,12 @@ use Rattle.camac_tokens.specs.declared.token.Sign.{Sign}
 use Rattle.camac_tokens.specs.declared.token.Sign.TheVariants as sign
 use Rattle.camac_tokens.specs.declared.token.TokenKind.{TokenKind}
 use Rattle.camac_tokens.specs.declared.token.TokenKind.TheVariants as kind
-use Rattle.camac_tokens.specs.declared.words.TheConstants.{KEYWORDS}
 use Rattle.camac_text_cursor.specs.Choice.{begins_declaration, begins_statement}
 use Rattle.camac_text_cursor.specs.Readers.{each_word, is_keyword, is_name, is_number}
 use Rattle.camac_text_cursor.specs.declared.choice.Choice.TheVariants as choice
 use Rattle.camac_explain_text_words.specs.Absent.{absent_sign}
 use Rattle.camac_explain_text_words.specs.Forms.{form_of}
-use Rattle.camac_explain_text_words.specs.Spelled.{is_hexadecimal, is_word, sign_text, word_text}
+use Rattle.camac_explain_text_words.specs.Spelled.{is_hexadecimal, is_word, keywords, sign_text, word_text}
 use Rattle.camac_explain_text_words.specs.declared.forms.TheConstants.{ASSIGNMENT}
 use Rattle.camac_explain_text_place.specs.Before.{Standing, called_in, declared, first_of, is_in_brackets, is_kind, near, open_line, wants_new_name, word_of}
 use Rattle.camac_explain_text.specs.Hint.{absent_text, no_arrow_text, takes_text}
@@ -30,7 +29,7 @@ near_among name ws = option_map word_text (find (λ w. begins_declaration w && i
 
 -- the first word that begins a declaration, and is near a name
 unfoldable pub near_beginning : (name : List ℕ) → Option (List ℕ)
-near_beginning name = near_among name KEYWORDS
+near_beginning name = near_among name keywords
 
 abbrev pub meant_by_name : Option TokenKind → Option (List ℕ)
 meant_by_name (Some (kind.Name name)) = option_map (λ meant. filled MEANT_BEFORE.now (meant ∷ quoted name ∷ [])) (near_beginning name)
@@ -58,7 +57,7 @@ abbrev pub near_each : Place → Option (List ℕ)
 near_each p = if expects p choice.Each && is_near p.bytes each_word then Some each_word else None
 
 abbrev pub near_named : Place → Option (List ℕ)
-near_named p = or_else (near_fitting p KEYWORDS) (near_each p)
+near_named p = or_else (near_fitting p keywords) (near_each p)
 
 -- a near word of the language in the place of a name
 unfoldable pub near_word : Place → Option (List ℕ)

@@ -2,22 +2,20 @@
 use Rattle.std.specs.Prelude.{ℕ, ◌+◌, Bool, ◌&&◌, ◌||◌, not, List, [], ◌∷◌, ◌++◌, codes, filter, length, map, if◌then◌else◌}
 use Rattle.std.specs.List.{concat}
 use Rattle.camac_lines.specs.Words.{before_item}
-use Rattle.camac_tokens.specs.declared.signs.TheConstants.{SIGNS}
 use Rattle.camac_tokens.specs.declared.token.Keyword.{Keyword}
 use Rattle.camac_tokens.specs.declared.token.Keyword.TheVariants as word
 use Rattle.camac_tokens.specs.declared.token.Sign.{Sign}
 use Rattle.camac_tokens.specs.declared.token.Sign.TheVariants as sign
-use Rattle.camac_tokens.specs.declared.words.TheConstants.{KEYWORDS}
 use Rattle.camac_text_cursor.specs.Choice.{begins_declaration, begins_statement, compares, is_of_product, is_of_sum}
 use Rattle.camac_text_cursor.specs.declared.choice.Choice.TheVariants as choice
 use Rattle.camac_text_cursor.specs.declared.choice.Choices.{Choices}
 use Rattle.camac_explain_text_place.specs.Place.{has}
-use Rattle.camac_explain_text_words.specs.Spelled.{is_mark, is_word, sign_text, word_text}
+use Rattle.camac_explain_text_words.specs.Spelled.{is_mark, is_word, keywords, sign_text, word_text}
 use Rattle.camac_explain_text_place.specs.declared.expected.Expected.{Expected}
 use Rattle.camac_explain_text_place.specs.declared.expected.Expected.TheVariants as expected
 use Rattle.camac_explain_text_place.specs.declared.expected.Group.{Group}
 use Rattle.camac_explain_text_place.specs.declared.expected.Group.TheVariants as group
-use Rattle.camac_explain_text_place.specs.declared.expected.TheConstants.{GROUPS, DECLARATION, STATEMENT, CONDITION, EXPRESSION, NUMBER, NAME, OPERATOR, COMPARISON}
+use Rattle.camac_explain_text_place.specs.declared.expected.TheConstants.{DECLARATION, STATEMENT, CONDITION, EXPRESSION, NUMBER, NAME, OPERATOR, COMPARISON}
 
 -- a second `not` may not stand after one
 abbrev pub is_condition : Choices → Bool
@@ -61,11 +59,21 @@ is_word_alone noted w =
 abbrev pub each_if : Choices → List Expected
 each_if noted = if has noted choice.Each then expected.Each ∷ [] else []
 
+abbrev pub groups : List Group
+groups =
+    group.Declaration ∷ group.Statement ∷ group.Condition ∷ group.Expression ∷ group.Number ∷ group.Name ∷ group.Operator ∷ group.Comparison ∷ []
+
+-- those of brackets, of expressions, of lists, of comparisons and of moves
+abbrev pub signs : List Sign
+signs =
+    sign.LeftBrace ∷ sign.RightBrace ∷ sign.LeftBracket ∷ sign.RightBracket ∷ sign.Plus ∷ sign.Minus ∷ sign.Times ∷ sign.Over ∷ sign.Modulo
+    ∷ sign.Equals ∷ sign.Comma ∷ sign.Less ∷ sign.AtMost ∷ sign.More ∷ sign.AtLeast ∷ sign.Same ∷ sign.Differs ∷ sign.Into ∷ sign.From ∷ sign.UpTo ∷ []
+
 -- the groups, the signs and the words, each in the order of its list
 unfoldable pub expected_of : Choices → List Expected
 expected_of noted =
-    ((map expected.Group (filter (is_group noted) GROUPS) ++ map expected.Sign (filter (is_sign_alone noted) SIGNS))
-    ++ map expected.Word (filter (is_word_alone noted) KEYWORDS))
+    ((map expected.Group (filter (is_group noted) groups) ++ map expected.Sign (filter (is_sign_alone noted) signs))
+    ++ map expected.Word (filter (is_word_alone noted) keywords))
     ++ each_if noted
 
 abbrev pub group_text : Group → List ℕ

@@ -4,7 +4,9 @@
 mod before;
 mod expected;
 mod found;
+mod laws;
 
 pub use before::{Before, Declared};
 pub use expected::{expected_list, is_name, is_operator};
 pub use found::{Found, kind_at, rest_of, word_at};
+pub use laws::lists_are_whole;

@@ -1,5 +1,5 @@
 -- How words, signs and numbers are spelled, and the character with which a text begins.
-use Rattle.std.specs.Prelude.{ℕ, Bool, ◌&&◌, ◌||◌, List, [], ◌∷◌, ◌++◌, codes, drop, length, nat_le, nat_lt, take_while, if◌then◌else◌, take}
+use Rattle.std.specs.Prelude.{ℕ, Bool, ◌&&◌, ◌||◌, List, [], ◌∷◌, ◌++◌, codes, drop, length, map, nat_le, nat_lt, take_while, if◌then◌else◌, take}
 use Rattle.std.specs.Char.{is_ascii_digit, is_ascii_graphic}
 use Rattle.std.specs.Str.{str_eq_ignore_ascii_case, is_utf8}
 use denote.Enum.Bare.{sameb}
@@ -20,8 +20,15 @@ abbrev pub bytes_in : {W : Type 0} → (is_it : W → Bool) → List (Spelling W
 bytes_in is_it [] = []
 bytes_in is_it (s ∷ ss) = if is_it s.spelled then s.bytes else bytes_in is_it ss
 
+-- the words of the language, by their lists
+abbrev pub words : List (Spelling Keyword)
+words = declaration_words ++ (action_words ++ (call_words ++ control_words))
+
+abbrev pub keywords : List Keyword
+keywords = map (λ s. s.spelled) words
+
 unfoldable pub word_text : Keyword → List ℕ
-word_text w = bytes_in (is_word w) (declaration_words ++ (action_words ++ (call_words ++ control_words)))
+word_text w = bytes_in (is_word w) words
 
 unfoldable pub sign_text : Sign → List ℕ
 sign_text s = bytes_in (is_mark s) (pair_signs ++ single_signs)
