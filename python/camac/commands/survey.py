@@ -4,7 +4,7 @@ import itertools
 import os
 import re
 import sys
-from typing import Any, Iterable, Iterator, List, Optional, Sequence, Tuple
+from typing import TYPE_CHECKING, Any, Iterable, Iterator, List, Optional, Sequence, Tuple
 
 from camac import drivers
 from camac.drive import Branch, ProgramFault
@@ -13,11 +13,12 @@ from camac.functions import name, reads, writes
 from camac.output import anything, nothing, output, refuse_loss, say
 from camac.surveys import FUNCTIONS, TESTS, Found, Row, Survey, survey
 from camac.surveys.asking import Asked, declared_plan
-from camac.surveys.driver_test import RULES, Finding, Kept, test_driver
-from camac.surveys.summary import refuse_foreign, summary
 from camac.surveys.wiring import wires
 from camac.texts import hashed, plan_text
 from camac.values import Plan
+
+if TYPE_CHECKING:
+    from camac.surveys.driver_test import Finding
 
 ABOUT = """\
 All that is sent is in scripts that the checker has accepted, and nothing of it writes to a module: F8 and F27 to A0 to A15 of each station with a
@@ -54,8 +55,10 @@ def do(args: argparse.Namespace) -> int:
         os.makedirs(args.keep, exist_ok=True)
         if os.listdir(args.keep):
             raise ProgramFault(f"{args.keep} is not empty", FAULT)
-    rule = anything if args.overwrite else refuse_foreign
     if args.out:
+        from camac.surveys.summary import refuse_foreign, summary
+
+        rule = anything if args.overwrite else refuse_foreign
         refuse_loss(args.out, rule)
     branch = drivers.driver(args.driver, args.plan)
     if register:
@@ -73,6 +76,8 @@ def do(args: argparse.Namespace) -> int:
 
 
 def _test(args: argparse.Namespace, branch: Branch, register: Tuple[int, int, int]) -> int:
+    from camac.surveys.driver_test import Kept, test_driver
+
     found, asked = test_driver(args.plan, branch, register)
     _print(_lines_of(found))
     _keep(args.keep, asked)
@@ -150,8 +155,10 @@ def _told_before(plan: Plan, functions: Sequence[int], has_empty: bool) -> List[
     return [row for it in lines + ([READ] if any(map(reads, others)) else []) for row in _wrapped(it, "", 2)]
 
 
-def _lines_of(findings: Sequence[Finding]) -> Iterator[str]:
+def _lines_of(findings: "Sequence[Finding]") -> Iterator[str]:
     """What a test of a driver found, by the rules of docs/LIVE.md."""
+    from camac.surveys.driver_test import RULES
+
     for rule, found in itertools.groupby(sorted(findings, key=lambda it: RULES.index(it.rule)), key=lambda it: it.rule):
         yield rule
         for it in found:
