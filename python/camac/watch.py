@@ -123,7 +123,6 @@ class Look(NamedTuple):
 
 def read_look(query: str) -> Look:
     """Reads the query of an address. Raises ValueError if it is none."""
-    # What understands an address is loaded, as what understands HTTP, when a browser asks.
     from urllib.parse import parse_qsl
 
     fields: Dict[str, Any] = {}
@@ -344,9 +343,7 @@ class Watch:
 
 
 def _duration(seconds: float) -> str:
-    if seconds < 60:
-        return f"{seconds:.0f} s"
-    return f"{seconds / 60:.0f} min" if seconds < 3600 else f"{seconds / 3600:.1f} h"
+    return f"{seconds:.0f} s" if seconds < 60 else f"{seconds / 60:.0f} min" if seconds < 3600 else f"{seconds / 3600:.1f} h"
 
 
 def _draw_one(channels: Channels, channel: Optional[Channel], look: Look, asked: Asked, over: Optional[Over]) -> str:
@@ -389,7 +386,7 @@ def _answer(request: Any, client: Any, server: "Server") -> socketserver.BaseReq
 
 
 class Server(socketserver.ThreadingTCPServer):
-    """The server of a page, on this computer alone. What understands HTTP is loaded when a browser asks."""
+    """The server of a page, on this computer alone. What understands HTTP and addresses is loaded when a browser asks."""
 
     allow_reuse_address = daemon_threads = True
 

@@ -4,7 +4,7 @@ import itertools
 import os
 import re
 import sys
-from typing import TYPE_CHECKING, Any, Iterable, Iterator, List, Optional, Sequence, Tuple
+from typing import Any, Iterable, Iterator, List, Optional, Sequence, Tuple
 
 from camac import drivers
 from camac.drive import Branch, ProgramFault
@@ -16,9 +16,6 @@ from camac.surveys.asking import Asked, declared_plan
 from camac.surveys.wiring import wires
 from camac.texts import hashed, plan_text
 from camac.values import Plan
-
-if TYPE_CHECKING:
-    from camac.surveys.driver_test import Finding
 
 ABOUT = """\
 All that is sent is in scripts that the checker has accepted, and nothing of it writes to a module: F8 and F27 to A0 to A15 of each station with a
@@ -76,10 +73,11 @@ def do(args: argparse.Namespace) -> int:
 
 
 def _test(args: argparse.Namespace, branch: Branch, register: Tuple[int, int, int]) -> int:
-    from camac.surveys.driver_test import Kept, test_driver
+    from camac.surveys.driver_test import RULES, Kept, test_driver
 
     found, asked = test_driver(args.plan, branch, register)
-    _print(_lines_of(found))
+    rules = itertools.groupby(sorted(found, key=lambda it: RULES.index(it.rule)), key=lambda it: it.rule)
+    _print(row for rule, its in rules for row in (rule, *(line for it in its for line in _wrapped(f"{it.kept.value:<11}{it.text}", "  ", 13))))
     _keep(args.keep, asked)
     return REFUSED if any(it.kept is Kept.BREAKS for it in found) else DONE
 
@@ -153,16 +151,6 @@ def _told_before(plan: Plan, functions: Sequence[int], has_empty: bool) -> List[
     lines = [f"sends {_named(tests)} to A0 to A15 of {where}"] if tests else []
     lines += [f"sends {_named(others)} where the plan declares it"] if others else []
     return [row for it in lines + ([READ] if any(map(reads, others)) else []) for row in _wrapped(it, "", 2)]
-
-
-def _lines_of(findings: "Sequence[Finding]") -> Iterator[str]:
-    """What a test of a driver found, by the rules of docs/LIVE.md."""
-    from camac.surveys.driver_test import RULES
-
-    for rule, found in itertools.groupby(sorted(findings, key=lambda it: RULES.index(it.rule)), key=lambda it: it.rule):
-        yield rule
-        for it in found:
-            yield from _wrapped(f"{it.kept.value:<11}{it.text}", "  ", 13)
 
 
 def _named(functions: Iterable[int]) -> str:
