@@ -33,17 +33,17 @@ class Commands(Room):
         listing = self.write("run.listing", self.call("run", "@sample", script, answers, events)[1].decode())
         messages = (f'{{"jsonrpc":"2.0","id":1,"method":"{it}","params":{{}}}}' for it in ("initialize", "shutdown", "exit"))
         asked, judged = "".join(f"Content-Length: {len(it)}\r\n\r\n{it}" for it in messages), ["@sample", script]
+        port = str(self.enterContext(socket.create_server(("127.0.0.1", 0))).getsockname()[1])
         commands = [
             ["check", *judged], ["fmt", "--check", script], ["diff", script, script, "--plan", "@sample"], ["csv", "listing", listing], ["lsp"],
             *(["draw", it, *judged, answers, "-o", self.room / it] for it in ("plan", "bounds", "response", "costs", "run", "words")),
-            ["annotate", *judged, answers], ["report", *judged, answers, "-o", self.room / "run.html"], ["survey", "@sample", "--driver", "mock"],
+            ["annotate", *judged, answers], ["report", *judged, answers, "-o", self.room / "run.html", "--write-record", self.room / "run.json"],
+            ["survey", "@sample", "--driver", "mock"], ["watch", events, "--port", port, "--plan", "@sample", "--script", script],
             ["simulate", *judged, "--rate", "adc=1000", "--cycle-us", "1", "--services", "10", "-o", self.room / "rates.svg"],
             ["export", events, "-o", self.room / "run.csv"], ["export", events, "--plan", "@sample", "--script", script, "-o", self.room / "named.csv"],
-            ["watch", events, "--port", str(self.enterContext(socket.create_server(("127.0.0.1", 0))).getsockname()[1])],
         ]
         with unittest.mock.patch.dict(os.environ, PYTHONPATH=str(self.room), CAMAC_PROGRAM=PROGRAM), concurrent.futures.ThreadPoolExecutor() as pool:
-            statuses = {"watch": (3,)}
-            counts = pool.map(lambda it: speed.instructions([sys.executable, "-m", "camac", *it], asked, statuses.get(it[0], (0,))), commands)
+            counts = pool.map(lambda it: speed.instructions([sys.executable, "-m", "camac", *it], asked, {"watch": (3,)}.get(it[0], (0,))), commands)
             for words, count in zip(commands, counts):
                 with self.subTest(" ".join(map(str, words))):
                     self.assertLess(count, 200e6)

@@ -16,7 +16,6 @@ from camac.record import Record, Source, beside, read_record, record_checks, tex
 from camac.subcommands import check, plan as read_plan
 from camac.texts import script_text
 from camac.values import Service
-from camac.word_file import parse_words
 from camac.words import Words
 
 FORM = "camac export 1"
@@ -88,6 +87,8 @@ def learn(given: Given, program: Optional[File] = None) -> About:
         services, sources = _judge(about.plan, about.script, program)
         about = about._replace(services=tuple(services), sources=sources)
     if given.words is not None:
+        from camac.word_file import parse_words
+
         text = script_text(given.words)
         words = parse_words(text, given.words, about.services, about.sources)
         about = about._replace(words_text=Source(os.fsdecode(given.words), text), words=words)

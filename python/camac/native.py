@@ -9,9 +9,9 @@ import struct
 from ctypes import POINTER, c_char, c_char_p, c_size_t, c_uint8, c_uint32, c_void_p
 from typing import Any, Dict, List, NamedTuple, Tuple
 
+from camac.program import VERSION, version_text
+
 NAME = "libcamac.so.0"
-# The version whose structs are here. A library fits whose first two numbers are the same.
-VERSION = 200
 OK, REFUSED, MISUSE, NO_MEMORY, OVERRUN, RANGE, SPENT, LONG, BUSY = range(9)
 DEMAND, CYCLE, LOCK, STOPPED, BLOCK, UNLOCK = range(1, 7)
 Q_STOP, Q_REPEAT, SCAN, WRITES, IN_LISTS = 1, 2, 4, 8, 16
@@ -167,11 +167,6 @@ def loaded() -> str:
 def version() -> str:
     """The version of the library."""
     return version_text(load().texts.camac_version())
-
-
-def version_text(number: int) -> str:
-    """The number of a version, as 200, in the form 0.2.0."""
-    return f"{number // 10_000}.{number // 100 % 100}.{number % 100}"
 
 
 def _check_version(library: ctypes.CDLL, found: str) -> None:

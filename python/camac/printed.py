@@ -126,7 +126,7 @@ def shown(line: str) -> str:
 
 def first_of(line: str, forms: "Iterable[Form[T]]") -> Optional[T]:
     """The value of a line by the first of the forms that it has; None if it has none."""
-    return next((it for it in (form.read(line) for form in forms) if it is not None), None)
+    return next((found for form in forms if line.startswith(form.begin) and (found := form.read(line)) is not None), None)
 
 
 def _read(line: str, *forms: "Form[Any]") -> Any:
@@ -210,21 +210,19 @@ def without_name(printed: str, name: str) -> List[str]:
 
 
 def read_plan(printed: str) -> Plan:
-    """What `camac plan` prints, with `--commands` or without."""
-    plan, crates, name = Plan(0, {}, ()), [], ""
+    """What `camac plan` prints, with `--commands` or without: below each type its declarations, below each crate its stations."""
+    plan = Plan(0, {}, ())
+    found: List[Tuple[Any, List[Any]]] = []
     for line in printed.splitlines():
-        it = _read(line, STATION, DECLARATION, TYPE, CRATE, BUFFER)
-        if isinstance(it, Plan):
+        it = _read(line, DECLARATION, STATION, TYPE, CRATE, BUFFER)
+        if isinstance(it, (Declaration, Station)):
+            found[-1][1].append(it)
+        elif isinstance(it, Plan):
             plan = it
-        elif isinstance(it, ModuleType):
-            name, plan.types[it.name] = it.name, it
-        elif isinstance(it, Declaration):
-            plan.types[name] = plan.types[name]._replace(declarations=(*plan.types[name].declarations, it))
-        elif isinstance(it, Crate):
-            crates.append(it)
         else:
-            crates[-1] = crates[-1]._replace(stations=(*crates[-1].stations, it))
-    return plan._replace(crates=tuple(crates))
+            found.append((it, []))
+    plan.types.update((it.name, it._replace(declarations=tuple(below))) for it, below in found if isinstance(it, ModuleType))
+    return plan._replace(crates=tuple(it._replace(stations=tuple(below)) for it, below in found if isinstance(it, Crate)))
 
 
 def parse_listing(lines: Iterable[str]) -> Iterator[Item]:

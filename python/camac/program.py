@@ -13,6 +13,8 @@ from camac.texts import plan_text
 
 REFUSED, USAGE = 1, 2
 EVERY = "--every="
+# The version of this package. A library fits whose first two numbers are the same.
+VERSION = 200
 # The library in the place of a program, and the subcommands that it has, too.
 IN_PROCESS = "@library"
 COMMANDS = frozenset(("plan", "check", "explain", "bounds", "costs", "tell", "response", "run"))
@@ -130,6 +132,11 @@ def advice_on(code: str, program: Optional[File] = None) -> Tuple[str, ...]:
         return tuple(_asked_once(os.fsdecode(find_program(None if program == IN_PROCESS else program)), ("explain", code)).splitlines()[1:])
     except (FileNotFoundError, UsageFault):
         return ()
+
+
+def version_text(number: int) -> str:
+    """The number of a version, as 200, in the form 0.2.0."""
+    return f"{number // 10_000}.{number // 100 % 100}.{number % 100}"
 
 
 def version(program: Optional[File] = None) -> str:

@@ -18,7 +18,7 @@ from camac.events import EventFileFault, read_events
 from camac.fits import Check
 from camac.output import Rule, anything, holds_bytes, output
 from camac.printed import read_responses, read_services
-from camac.program import output_of
+from camac.program import VERSION, output_of, version_text
 from camac.proof import told
 from camac.subcommands import rates
 from camac.texts import hashed, plan_text, read_regular, script_text
@@ -199,8 +199,6 @@ def describe(of: Played, asked: Optional[Recording] = None) -> Record:
     """The record of a run that has not begun.
 
     Raises Refused if plan or script is refused, ProgramFault and OSError as `camac.check`, and what `read_summary` raises."""
-    from camac.native import VERSION, version_text
-
     asked, surveyed = asked or Recording(""), None
     if asked.survey is not None:
         from camac.surveys.summary import read_summary

@@ -7,7 +7,6 @@ import socketserver
 import sys
 import threading
 import time
-import urllib.parse
 from typing import Any, Callable, Dict, List, NamedTuple, Optional, Sequence, Tuple, Union
 
 from camac.columns import Naming, asked_of, lay_over, read_cut
@@ -15,7 +14,6 @@ from camac.drive import File, UsageFault, one_line
 from camac.export import About, Given, checks_of, learn
 from camac.follow import Alarm, Counts, Follower, Mark, State, sounding
 from camac.pictures.maps import draw_pairs
-from camac.pictures.regions import row_of
 from camac.pictures.spectra import BOTH, View, channel_groups, draw_panel, of_channel, seen_groups
 from camac.pictures.svg import Canvas, escape, share, ticks
 from camac.printed import read_responses
@@ -95,7 +93,9 @@ class RunList:
 
     def row(self, name: str, record: Record) -> str:
         """A run in a line: its page, its state, its number and title."""
-        link = f'<a href="{urllib.parse.quote(os.fsencode(name), safe="")}/">{escape(name)}</a>' if record.events else escape(name)
+        from urllib.parse import quote
+
+        link = f'<a href="{quote(os.fsencode(name), safe="")}/">{escape(name)}</a>' if record.events else escape(name)
         age = time.time() - (stamp(os.path.join(self.folder, name)) or (0, 0))[1] / 1e9
         state, is_good = (record.line, record.how == "ended") if record.line is not None else ("goes on", True) if age < PATIENCE else (f"not told for {age / 60:,.0f} min", False)
         texts = [f"run {record.number}" if record.number is not None else "", record.title, f"begun {record.begin[:19]}Z" if record.begin else ""]
@@ -123,8 +123,10 @@ class Look(NamedTuple):
 
 def read_look(query: str) -> Look:
     """Reads the query of an address. Raises ValueError if it is none."""
+    from urllib.parse import parse_qsl
+
     fields: Dict[str, Any] = {}
-    for name, value in urllib.parse.parse_qsl(query, keep_blank_values=True, strict_parsing=bool(query)):
+    for name, value in parse_qsl(query, keep_blank_values=True, strict_parsing=bool(query)):
         if name in ("gate", "region"):
             fields[name] = (*fields.get(name, ()), value)
         elif name in ("of", "up"):
@@ -341,13 +343,13 @@ class Watch:
 
 
 def _duration(seconds: float) -> str:
-    if seconds < 60:
-        return f"{seconds:.0f} s"
-    return f"{seconds / 60:.0f} min" if seconds < 3600 else f"{seconds / 3600:.1f} h"
+    return f"{seconds:.0f} s" if seconds < 60 else f"{seconds / 60:.0f} min" if seconds < 3600 else f"{seconds / 3600:.1f} h"
 
 
 def _draw_one(channels: Channels, channel: Optional[Channel], look: Look, asked: Asked, over: Optional[Over]) -> str:
     """A spectrum by itself, what is in its range and in regions, and a pair."""
+    from camac.pictures.regions import row_of
+
     drawn, cuts = "", [*asked.regions]
     if channel is not None:
         spectrum = channel.spectrum
@@ -384,7 +386,7 @@ def _answer(request: Any, client: Any, server: "Server") -> socketserver.BaseReq
 
 
 class Server(socketserver.ThreadingTCPServer):
-    """The server of a page, on this computer alone. What understands HTTP is loaded when a browser asks."""
+    """The server of a page, on this computer alone. What understands HTTP and addresses is loaded when a browser asks."""
 
     allow_reuse_address = daemon_threads = True
 
@@ -394,9 +396,11 @@ class Server(socketserver.ThreadingTCPServer):
 
     def find(self, path: str) -> Optional[str]:
         """The text of a page, or of its parts as JSON; None if there is no such page."""
+        from urllib.parse import unquote_to_bytes
+
         way, _, query = path.partition("?")
         folder, _, name = way.rpartition("/")
-        watch: Any = self.watch if folder == "" else self.watch.open(os.fsdecode(urllib.parse.unquote_to_bytes(folder[1:]))) if isinstance(self.watch, RunList) else None
+        watch: Any = self.watch if folder == "" else self.watch.open(os.fsdecode(unquote_to_bytes(folder[1:]))) if isinstance(self.watch, RunList) else None
         if watch is None or not way.startswith("/") or name not in ("", "state"):
             return None
         if name == "":

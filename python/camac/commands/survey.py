@@ -13,8 +13,6 @@ from camac.functions import name, reads, writes
 from camac.output import anything, nothing, output, refuse_loss, say
 from camac.surveys import FUNCTIONS, TESTS, Found, Row, Survey, survey
 from camac.surveys.asking import Asked, declared_plan
-from camac.surveys.driver_test import RULES, Finding, Kept, test_driver
-from camac.surveys.summary import refuse_foreign, summary
 from camac.surveys.wiring import wires
 from camac.texts import hashed, plan_text
 from camac.values import Plan
@@ -54,8 +52,10 @@ def do(args: argparse.Namespace) -> int:
         os.makedirs(args.keep, exist_ok=True)
         if os.listdir(args.keep):
             raise ProgramFault(f"{args.keep} is not empty", FAULT)
-    rule = anything if args.overwrite else refuse_foreign
     if args.out:
+        from camac.surveys.summary import refuse_foreign, summary
+
+        rule = anything if args.overwrite else refuse_foreign
         refuse_loss(args.out, rule)
     branch = drivers.driver(args.driver, args.plan)
     if register:
@@ -73,8 +73,11 @@ def do(args: argparse.Namespace) -> int:
 
 
 def _test(args: argparse.Namespace, branch: Branch, register: Tuple[int, int, int]) -> int:
+    from camac.surveys.driver_test import RULES, Kept, test_driver
+
     found, asked = test_driver(args.plan, branch, register)
-    _print(_lines_of(found))
+    rules = itertools.groupby(sorted(found, key=lambda it: RULES.index(it.rule)), key=lambda it: it.rule)
+    _print(row for rule, its in rules for row in (rule, *(line for it in its for line in _wrapped(f"{it.kept.value:<11}{it.text}", "  ", 13))))
     _keep(args.keep, asked)
     return REFUSED if any(it.kept is Kept.BREAKS for it in found) else DONE
 
@@ -148,14 +151,6 @@ def _told_before(plan: Plan, functions: Sequence[int], has_empty: bool) -> List[
     lines = [f"sends {_named(tests)} to A0 to A15 of {where}"] if tests else []
     lines += [f"sends {_named(others)} where the plan declares it"] if others else []
     return [row for it in lines + ([READ] if any(map(reads, others)) else []) for row in _wrapped(it, "", 2)]
-
-
-def _lines_of(findings: Sequence[Finding]) -> Iterator[str]:
-    """What a test of a driver found, by the rules of docs/LIVE.md."""
-    for rule, found in itertools.groupby(sorted(findings, key=lambda it: RULES.index(it.rule)), key=lambda it: it.rule):
-        yield rule
-        for it in found:
-            yield from _wrapped(f"{it.kept.value:<11}{it.text}", "  ", 13)
 
 
 def _named(functions: Iterable[int]) -> str:

@@ -281,7 +281,7 @@ def _packed(counts: Sequence[float]) -> str:
     """Numbers as a page has them: so many zeros as one number below 0."""
     places = [-1, *itertools.compress(itertools.count(), counts), len(counts)]
     zeros = (str(one + 1 - at) if at > one + 1 else "" for one, at in zip(places, places[1:]))
-    others = (f"{it:.6g}" if isinstance(it, float) else str(it) for it in filter(None, counts))
+    others = (f"{it:.6g}" if isinstance(it, float) else str(it) for it in map(counts.__getitem__, places[1:-1]))
     return " ".join(filter(None, itertools.chain(*itertools.zip_longest(zeros, others))))
 
 

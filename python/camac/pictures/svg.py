@@ -1,4 +1,5 @@
 """SVG as text: the colours of both themes, texts that may hold anything, and a canvas."""
+import functools
 import math
 import re
 from typing import Callable, Dict, Iterable, List, Optional, Sequence, Tuple, Union
@@ -21,7 +22,6 @@ MONO_11, SANS_11, BOLD_12 = 6.7, 6.8, 8.2
 NO_POINTER = ' style="pointer-events:none"'
 # What no XML may hold, what moves the cursor of a terminal, and halves of characters.
 FORBIDDEN = "[\x00-\x08\x0b\x0c\x0e-\x1f\x7f-\x9f\ud800-\udfff\ufffe\uffff]"
-ENTITIES = str.maketrans({"&": "&amp;", "<": "&lt;", ">": "&gt;", '"': "&quot;"})
 Box = Tuple[float, float, float, float]
 
 
@@ -29,14 +29,15 @@ def clean(text: object) -> str:
     """The text as an XML file may hold it: a comment of a script, or the name of a file, may hold any byte. A tab is two spaces."""
     plain = str(text)
     # The expression takes long to compile, and few texts need it.
-    return plain if plain.replace("\n", "").isprintable() else re.sub(FORBIDDEN, "\ufffd", plain).replace("\t", "  ")
+    return plain if plain.isprintable() or plain.replace("\n", "").isprintable() else re.sub(FORBIDDEN, "\ufffd", plain).replace("\t", "  ")
 
 
 def escape(text: object) -> str:
     """The text between tags or, quotes too, as the value of an attribute."""
-    return clean(text).translate(ENTITIES)
+    return clean(text).replace("&", "&amp;").replace("<", "&lt;").replace(">", "&gt;").replace('"', "&quot;")
 
 
+@functools.lru_cache(maxsize=8192)
 def number(value: float) -> str:
     """A number of pixels, to a tenth."""
     text = f"{value:.1f}"
@@ -139,7 +140,7 @@ class Canvas:
 
     def line(self, begin: Tuple[float, float], end: Tuple[float, float], kind: str) -> None:
         self.grow(max(begin[1], end[1]))
-        self.lines((begin, end), kind)
+        self.path(f"M{number(begin[0])} {number(begin[1])}L{number(end[0])} {number(end[1])}", kind)
 
     def lines(self, places: Iterable[Tuple[float, float]], kind: str) -> None:
         """A line from each place to the next one."""

@@ -6,7 +6,6 @@ from camac.columns import Naming, gather
 from camac.drive import File, Refused
 from camac.program import knows_command, lines_of
 from camac.proof import told
-from camac.pictures.plan import draw_plan
 from camac.pictures.svg import escape
 from camac.report.page import figure, header, page
 from camac.fits import Check
@@ -77,6 +76,7 @@ def _shares_check(bodies: List[Body]) -> Check:
 def _refused_page(inputs: Inputs, line: str, program: Optional[File] = None) -> str:
     """The page where plan or script is refused; `line` is what the program says. It has what `camac explain` says, the lines around the place, and the
     plan if it is good."""
+    from camac.pictures.plan import draw_plan
     from camac.report.sections import base_name
 
     explanation = "\n".join(lines_of("explain", "--", inputs.plan, inputs.script, program=program)) or line

@@ -73,8 +73,9 @@ def _try(at: "_Station", how: str, by_hand: Optional[Agree], branch: Branch) -> 
     seen = begun if begun.fault else ask(at.look(), branch)
     if seen.fault:
         return at.wire(how, fault=seen.fault)._replace(asked=(begun, seen))
-    before, after = ([answer.gl for command, answer in it.cycles() if command.station == CONTROLLER and command.function == 0][-1] for it in (begun, seen))
-    tests = [answer.q for command, answer in seen.cycles() if command.function == 8]
+    cycles = seen.cycles()
+    before, after = ([answer.gl for command, answer in it if command.station == CONTROLLER and command.function == 0][-1] for it in (begun.cycles(), cycles))
+    tests = [answer.q for command, answer in cycles if command.function == 8]
     bits = tuple(bit for bit in range(1, 25) if (after & ~before) >> (bit - 1) & 1)
     return at.wire(how)._replace(is_raised=bool(tests[-1]), bits=bits, asked=(begun, seen))
 
