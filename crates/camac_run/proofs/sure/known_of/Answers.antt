@@ -13,31 +13,31 @@ pub returns-in-Assign : goal.returns-in-Assign
 returns-in-Assign c =
     let s = c.in-Assign.assignment in
     rw (c.in-Assign.is, c.note.ensures)
-    (λ i. assign_needs_none (context_before c.args.checked.now i) c.args.variables.now c.args.registers.now s.spot s.variable (expression_of s.value) c.value_of-value.result c.value_of-value.ensures)
+    (λ i. assign_needs_none (context_before c.args.checked.now i) c.args.variables.now c.args.registers.now s.spot s.variable (expression_of s.value) c.value_of-value.result c.value_of-value.ensures.sure)
 
 pub returns-in-SetRegister : goal.returns-in-SetRegister
 returns-in-SetRegister c =
     let s = c.in-SetRegister.setting in
     rw (c.in-SetRegister.is, c.note-in-SetRegister.ensures)
-    (λ i. register_needs_none (context_before c.args.checked.now i) c.args.variables.now c.args.registers.now s.spot s.register (expression_of s.crate_no) (expression_of s.station) (expression_of s.sub_address) c.address_of-at.result c.address_of-at.ensures)
+    (λ i. register_needs_none (context_before c.args.checked.now i) c.args.variables.now c.args.registers.now s.spot s.register (expression_of s.crate_no) (expression_of s.station) (expression_of s.sub_address) c.address_of-at.result c.address_of-at.ensures.sure)
 
 pub returns-in-Single : goal.returns-in-Single
 returns-in-Single c =
     let s = c.in-Single.action in
     rw (c.in-Single.is, c.made.ensures)
-    (λ i. sure_is (context_before c.args.checked.now i) c.args.variables.now c.args.registers.now (single_of s) c.single.result c.single.new.variables (map_some c.single.result _ _ (λ k m. m (context_before c.args.checked.now i)) c.single.ensures))
+    (λ i. sure_is (context_before c.args.checked.now i) c.args.variables.now c.args.registers.now (single_of s) c.single.result c.single.new.variables (map_some c.single.result _ _ (λ k m. m (context_before c.args.checked.now i)) c.single.ensures.sure))
 
 pub returns-in-CrateCall : goal.returns-in-CrateCall
 returns-in-CrateCall c =
     let s = c.in-CrateCall.action in
     rw (c.in-CrateCall.is, c.made-in-CrateCall.ensures)
-    (λ i. sure_is (context_before c.args.checked.now i) c.args.variables.now c.args.registers.now (crate_action_of s) c.call_of_crate.result c.args.variables.now (map_some c.call_of_crate.result _ _ (λ k m. m (context_before c.args.checked.now i) c.args.registers.now) c.call_of_crate.ensures))
+    (λ i. sure_is (context_before c.args.checked.now i) c.args.variables.now c.args.registers.now (crate_action_of s) c.call_of_crate.result c.args.variables.now (map_some c.call_of_crate.result _ _ (λ k m. m (context_before c.args.checked.now i) c.args.registers.now) c.call_of_crate.ensures.sure))
 
 pub returns-in-LamCall : goal.returns-in-LamCall
 returns-in-LamCall c =
     let s = c.in-LamCall.action in
     rw (c.in-LamCall.is, c.made-in-LamCall.ensures)
-    (λ i. sure_is (context_before c.args.checked.now i) c.args.variables.now c.args.registers.now (lam_action_of s) c.call_of_lam.result c.args.variables.now (map_some c.call_of_lam.result _ _ (λ k m. m c.args.variables.now c.args.registers.now i) c.call_of_lam.ensures))
+    (λ i. sure_is (context_before c.args.checked.now i) c.args.variables.now c.args.registers.now (lam_action_of s) c.call_of_lam.result c.args.variables.now (map_some c.call_of_lam.result _ _ (λ k m. m c.args.variables.now c.args.registers.now i) c.call_of_lam.ensures.sure))
 
 pub returns-in-Scan : goal.returns-in-Scan
 returns-in-Scan c =
