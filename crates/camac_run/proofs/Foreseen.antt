@@ -18,9 +18,11 @@ use Rattle.camac_model.specs.State.{Variables}
 use Rattle.camac_model.specs.Value.{both, and_then, value, test_value, part_value, truth}
 use Rattle.camac_range.specs.Compare.{compared}
 use Rattle.camac_range.specs.Number.{in_range, sum_of, difference_of, product_of, quotient_of, rest_of}
-use Rattle.camac_run.specs.Foreseen.{known_value, known_test, known_part, known_truth, value_if, is_crate, known_crate, known_address, known_word, known_data, is_on_branch, known_command, known_cycle, known_after}
-use Rattle.camac_run.specs.Sure.{KnowsVariables, HasValue, HasTruth, MakesCycle}
-use Rattle.camac_run.proofs.Steps.{control_makes, crate_makes, lam_makes, read_makes, write_makes}
+use Rattle.camac_run.specs.Foreseen.{known_value, known_test, known_part, known_truth, value_if, is_crate, known_crate, known_address, known_behind, known_word, known_data, is_on_branch, known_command, known_cycle, known_after}
+use Rattle.camac_run.specs.declared.sure.Sure.{Sure}
+use Rattle.camac_run.specs.declared.sure.Sure.TheVariants as sure
+use Rattle.camac_run.specs.Sure.{KnowsVariables, HasValue, HasTruth, MakesCycle, NeedsNone, sure_of}
+use Rattle.camac_run.proofs.Steps.{assign_needs_none, control_makes, crate_makes, lam_makes, put_needs_none, read_makes, register_needs_none, write_makes}
 
 -- where there is a value, this holds of it
 pub some_is : {A : Type 0} (o : Option A) (P : A → Type 0) → ((v : A) → o ≡ Some v → P v) → IfSome o P
@@ -30,6 +32,10 @@ some_is (Some v) P f = f v refl
 -- what holds of the value that is known holds of the one that is there
 pub so_of : {A : Type 0} (o p : Option A) (P : A → Type 0) → IfSome p P → o ≡ p → (v : A) → o ≡ Some v → P v
 so_of o p P h q v is = subst (λ o. IfSome o P) (sym q ∙ is) h
+
+-- a cycle that is known is told
+pub told : (o p : Option Command) (r : Sure) (P : Command → Type 0) → r ≡ sure_of o → o ≡ p → ((k : Command) → o ≡ Some k → P k) → IfSome p (λ k. (r ≡ sure.Makes k) × P k)
+told o p r P is q f = subst (λ p. IfSome p (λ k. (r ≡ sure.Makes k) × P k)) q (some_is o (λ k. (r ≡ sure.Makes k) × P k) (λ k e. (is ∙ ap sure_of e, f k e)))
 
 -- ---- what one has, the other has
 
@@ -121,7 +127,7 @@ module _ (known : List (Option ℕ)) where
       go (Some w) h =
           if_is (nat_lt w (2 ^ 24) && fits_size size w) w (λ v. HasValue known e v × (fits_size size v ≡ true)) (λ so. (h, second_is (nat_lt w (2 ^ 24)) (fits_size size w) so))
 
-  pub address_is_so :
+  address_is_so :
       (c n a : Expression)
       → IfSome (known_address known c n a) (λ at. HasValue known c at.crate_no × HasValue known n at.station × HasValue known a at.sub_address)
   address_is_so c n a = go (known_value known c) (known_value known n) (known_value known a) (value_is_so known c) (value_is_so known n) (value_is_so known a)
@@ -193,6 +199,24 @@ module _ (c : Context) (known : List (Option ℕ)) (registers : List (Option Add
   cycle_is_so (while_ spot test n x ks a) = tt
   cycle_is_so (locked spot e a) = tt
   cycle_is_so (call spot p es) = tt
+
+  pub other_is_so : (st : Statement) → IfSome (known_behind known registers st) (λ after. NeedsNone c known registers st after.0 after.1)
+  other_is_so (put spot e) = put_needs_none c known registers spot e
+  other_is_so (assign spot x e) = assign_needs_none c known registers spot x e (known_value known e) (value_is_so known e)
+  other_is_so (set_register spot r e1 e2 e3) = register_needs_none c known registers spot r e1 e2 e3 (known_address known e1 e2 e3) (address_is_so known e1 e2 e3)
+  other_is_so (single spot size f r m) = tt
+  other_is_so (address_scan spot f r1 r2 e x) = tt
+  other_is_so (q_stop spot f r t e x) = tt
+  other_is_so (q_repeat spot f r t e1 e2 x) = tt
+  other_is_so (crate_call spot w e) = tt
+  other_is_so (lam_call spot w l) = tt
+  other_is_so (choose spot test a) = tt
+  other_is_so (choose_else spot test a b) = tt
+  other_is_so (for_ spot x e1 e2 ks a) = tt
+  other_is_so (for_each spot x v w a) = tt
+  other_is_so (while_ spot test n x ks a) = tt
+  other_is_so (locked spot e a) = tt
+  other_is_so (call spot p es) = tt
 
 -- ---- nothing is left out: where each variable is known, so is each value
 

@@ -6,14 +6,14 @@ use Rattle.camac_esone.specs.Calls.{command_at, crate_address, crate_function, l
 use Rattle.camac_func.specs.declared.data.DataMove.{DataMove}
 use Rattle.camac_func.specs.declared.data.DataMove.TheVariants as moved
 use Rattle.camac_lang.specs.Expressions.{refers}
-use Rattle.camac_lang.specs.Tree.{Expression, number, variable, group, add, subtract, multiply, divide, remainder, Test, compare, Part, plain, negated, Condition, Move, no_data, into, from, Statement, single, crate_call, lam_call}
+use Rattle.camac_lang.specs.Tree.{Expression, number, variable, group, add, subtract, multiply, divide, remainder, Test, compare, Part, plain, negated, Condition, Move, no_data, into, from, Statement, assign, set_register, single, put, crate_call, lam_call}
 use Rattle.camac_lang.specs.declared.word.WordSize.{WordSize}
 use Rattle.camac_model.specs.Meaning.{Context, fits_size}
 use Rattle.camac_model.specs.State.{Variables}
 use Rattle.camac_model.specs.Value.{both, and_then, truth, value}
 use Rattle.camac_range.specs.Compare.{compared}
 use Rattle.camac_range.specs.Number.{in_range, sum_of, difference_of, product_of, quotient_of, rest_of}
-use Rattle.camac_run.specs.Sure.{HasTruth, HasValue, MakesCycle}
+use Rattle.camac_run.specs.Sure.{HasTruth, HasValue, MakesCycle, NeedsNone}
 
 -- the value of an expression
 abbrev pub known_value : List (Option ℕ) → Expression → Option ℕ
@@ -81,20 +81,22 @@ abbrev pub known_after : List (Option ℕ) → Statement → List (Option ℕ)
 known_after known (single spot size f r (into x)) = set known x None
 known_after known st = known
 
+-- what is known after a statement that needs no answer
+abbrev pub known_behind : List (Option ℕ) → List (Option Address) → Statement → Option (List (Option ℕ) × List (Option Address))
+known_behind known registers (put spot e) = Some (known, registers)
+known_behind known registers (assign spot x e) = Some (set known x (known_value known e), registers)
+known_behind known registers (set_register spot r c n a) = Some (known, set registers r (known_address known c n a))
+known_behind known registers st = None
+
 -- what is known is so, whatever is not known
 pub record KnownIsSo (known : List (Option ℕ)) : Type 0 where
   pub values : (e : Expression) → IfSome (known_value known e) (HasValue known e)
   pub conditions : (test : Condition) → IfSome (known_truth known test) (HasTruth known (truth test))
-  pub addresses :
-      (c n a : Expression)
-      → IfSome (known_address known c n a) (λ at. HasValue known c at.crate_no × HasValue known n at.station × HasValue known a at.sub_address)
-  pub cycles :
-      (c : Context) (registers : List (Option Address)) (st : Statement)
-      → IfSome (known_cycle c.lams known registers st) (λ k. MakesCycle c known registers st k (known_after known st))
+  pub cycles : (c : Context) (registers : List (Option Address)) (st : Statement) → IfSome (known_cycle c.lams known registers st) (λ k. MakesCycle c known registers st k (known_after known st))
+  pub others : (c : Context) (registers : List (Option Address)) (st : Statement) → IfSome (known_behind known registers st) (λ after. NeedsNone c known registers st after.0 after.1)
 
 -- where each variable is known, so is each value
 abbrev pub ValuesAreKnown : Type 0
 ValuesAreKnown =
-    (known : List (Option ℕ)) (all : Variables)
-    → ((i : ℕ) → i < length known → slice_index_or known i None ≡ Some (all i))
+    (known : List (Option ℕ)) (all : Variables) → ((i : ℕ) → i < length known → slice_index_or known i None ≡ Some (all i))
     → (e : Expression) → refers (length known) e ≡ true → known_value known e ≡ value e all

@@ -9,9 +9,10 @@ ghost use Rattle.camac_model.specs.Meaning.{Context, block_meaning, effect, fits
 ghost use Rattle.camac_model.specs.State.{stepped};
 ghost use Rattle.camac_model.specs.Value.{part_value, test_value, truth};
 ghost use Rattle.camac_range.specs.Compare.{compared};
-ghost use Rattle.camac_run.specs.Foreseen.{known_address, known_after, known_command, known_crate, known_cycle, known_part, known_test, known_truth, known_value, known_word};
+ghost use Rattle.camac_run.specs.Foreseen.{known_address, known_after, known_behind, known_command, known_crate, known_cycle, known_part, known_test, known_truth, known_value, known_word};
 ghost use Rattle.camac_run.specs.Sure.{Goes, HasTruth, HasValue, IsSure, KnowsLess, MakesCycle, context_before, context_of, sure_of, transfer_of};
 ghost use Rattle.camac_run.specs.declared.ahead.Known.{Known};
+ghost use Rattle.camac_run.specs.declared.sure.Sure.TheVariants.{Makes, NeedsNone};
 
 use crate::ahead::{Inside, Known};
 use crate::blocks::{q_repeat_block, q_stop_block, scan_block};
@@ -47,7 +48,9 @@ pub fn known_of(
     variables: &mut [Option<u32>],
     registers: &mut [Option<Address>],
 ) -> Sure
-    ensures { (i : ℕ) → IsSure (context_before checked.now i) variables.old registers.old (action_of action.now) result variables.new registers.new }
+    ensures sure { (i : ℕ) → IsSure (context_before checked.now i) variables.old registers.old (action_of action.now) result variables.new registers.new }
+    ensures cycles { (i : ℕ) → IfSome (known_cycle (context_before checked.now i).lams variables.old registers.old (action_of action.now)) (λ k. (result ≡ Makes k) × (variables.new ≡ known_after variables.old (action_of action.now))) }
+    ensures others { IfSome (known_behind variables.old registers.old (action_of action.now)) (λ after. (result ≡ NeedsNone) × (variables.new ≡ after.0) × (registers.new ≡ after.1)) }
 {
     match action {
         Action::Put(_) => Sure::NeedsNone,
