@@ -22,3 +22,4 @@ pub mod Undone
 pub mod Transfers
 pub mod Called
 pub mod Begun
+pub mod Foreseen

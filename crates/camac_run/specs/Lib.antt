@@ -13,6 +13,7 @@ pub mod Locks
 pub mod Abandoned
 pub mod Ahead
 pub mod Sure
+pub mod Foreseen
 pub mod Waits
 pub mod Back
 pub mod Transfer

@@ -1,8 +1,10 @@
 // Laws of every checked script: the headline, and what a runner holds and wants.
 
+ghost use Rattle.std.specs.Prelude.{ℕ, List, Option};
 ghost use Rattle.camac_run.specs.Abandoned.{AbandoningHolds};
 ghost use Rattle.camac_run.specs.Ahead.{AheadIsMade, BeginningsAreAhead, FirstIsWanted};
 ghost use Rattle.camac_run.specs.Back.{SettingBackHolds};
+ghost use Rattle.camac_run.specs.Foreseen.{KnownIsSo, ValuesAreKnown};
 ghost use Rattle.camac_run.specs.Holds.{AllIsTold, GoingOnHolds, ResumingHolds, WantsAreWanted};
 ghost use Rattle.camac_run.specs.Headline.{RunsAlways, RunsByHeadline, LeavesFewEvents};
 ghost use Rattle.camac_run.specs.Requested.{RequestsAreSafe};
@@ -59,6 +61,12 @@ pub fn ahead_is_made()
     ensures made { AheadIsMade }
     ensures wanted { FirstIsWanted }
     ensures beginnings { BeginningsAreAhead }
+{}
+
+/// What is known before the answers is so, whatever is not known. Where each variable is known, so is each value.
+pub fn known_is_so()
+    ensures so { (known : List (Option ℕ)) → KnownIsSo known }
+    ensures all { ValuesAreKnown }
 {}
 
 /// What is left of a transfer begins with the cycle that the run wants, and the run makes its cycles one after the other, as their Q want it.

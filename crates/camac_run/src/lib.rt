@@ -24,8 +24,8 @@ pub use back::Back;
 pub use camac_machine::Item;
 pub use items::Items;
 pub use laws::{
-    abandoning_holds, ahead_is_made, requests_are_safe, runner_holds_the_rest, runs_by_headline,
-    setting_back_holds, transfers_go_on, waits_decide,
+    abandoning_holds, ahead_is_made, known_is_so, requests_are_safe, runner_holds_the_rest,
+    runs_by_headline, setting_back_holds, transfers_go_on, waits_decide,
 };
 pub use list::{AHEAD, Ahead, Coming};
 pub use log::{Log, run};

@@ -3,14 +3,16 @@
 ghost use Rattle.std.specs.Prelude.{◌≡◌, ℕ, List, [], Option, None, IfSome, true, map, set, slice_index_or};
 ghost use Rattle.camac_branch.specs.Address.{Address as At};
 ghost use Rattle.camac_esone.specs.Calls.{command_at};
-ghost use Rattle.camac_lang.specs.View.{action_of, call_of, crate_action_of, expression_of, for_of, lam_action_of, part_of, single_of, statement_of, statements_of, test_of};
+ghost use Rattle.camac_lang.specs.View.{action_of, call_of, crate_action_of, expression_of, for_of, lam_action_of, part_of, single_of, statement_of, statements_of, term_of, test_of};
 ghost use Rattle.camac_model.specs.Fine.{most_turns};
 ghost use Rattle.camac_model.specs.Meaning.{Context, block_meaning, effect, fits_size};
 ghost use Rattle.camac_model.specs.State.{stepped};
 ghost use Rattle.camac_model.specs.Value.{part_value, test_value, truth};
 ghost use Rattle.camac_range.specs.Compare.{compared};
+ghost use Rattle.camac_run.specs.Foreseen.{known_address, known_after, known_behind, known_command, known_crate, known_cycle, known_part, known_test, known_truth, known_value, known_word};
 ghost use Rattle.camac_run.specs.Sure.{Goes, HasTruth, HasValue, IsSure, KnowsLess, MakesCycle, context_before, context_of, sure_of, transfer_of};
 ghost use Rattle.camac_run.specs.declared.ahead.Known.{Known};
+ghost use Rattle.camac_run.specs.declared.sure.Sure.TheVariants.{Makes, NeedsNone};
 
 use crate::ahead::{Inside, Known};
 use crate::blocks::{q_repeat_block, q_stop_block, scan_block};
@@ -21,7 +23,7 @@ use camac_esone::{Address, crate_call, lam_function};
 use camac_func::DataMove;
 use camac_lang::{
     Action, CrateAction, Expr, ForHead, Form, LamAction, Move, Part, ProcedureCall,
-    RegisterSetting, SingleAction, Stmt, Test, WordSize,
+    RegisterSetting, SingleAction, Stmt, Term, Test, WordSize,
 };
 use camac_range::Cmp;
 use camac_rules::Checked;
@@ -46,7 +48,9 @@ pub fn known_of(
     variables: &mut [Option<u32>],
     registers: &mut [Option<Address>],
 ) -> Sure
-    ensures { (i : ℕ) → IsSure (context_before checked.now i) variables.old registers.old (action_of action.now) result variables.new registers.new }
+    ensures sure { (i : ℕ) → IsSure (context_before checked.now i) variables.old registers.old (action_of action.now) result variables.new registers.new }
+    ensures cycles { (i : ℕ) → IfSome (known_cycle (context_before checked.now i).lams variables.old registers.old (action_of action.now)) (λ k. (result ≡ Makes k) × (variables.new ≡ known_after variables.old (action_of action.now))) }
+    ensures others { IfSome (known_behind variables.old registers.old (action_of action.now)) (λ after. (result ≡ NeedsNone) × (variables.new ≡ after.0) × (registers.new ≡ after.1)) }
 {
     match action {
         Action::Put(_) => Sure::NeedsNone,
@@ -92,20 +96,34 @@ fn transfers(block: Option<ReadBlock>) -> Sure
     }
 }
 
-// The value of an expression that is a literal or a variable, if it is known.
+// The value of an expression, if it is known.
 pub fn value_of(e: &Expr, known: &[Option<u32>]) -> Option<u32>
-    ensures { IfSome result (HasValue known.now (expression_of e.now)) }
+    ensures sure { IfSome result (HasValue known.now (expression_of e.now)) }
+    ensures exact { result ≡ known_value known.now (expression_of e.now) }
 {
-    match e.term().form() {
+    value_in(e.term(), known)
+}
+
+// The same of one that stands in it.
+fn value_in(e: Term<'_>, known: &[Option<u32>]) -> Option<u32>
+    ensures { result ≡ known_value known.now (term_of e.entry) }
+{
+    match e.form() {
         Form::Number(n) => Some(n),
         Form::Variable(x) => at_place(known, x),
-        _ => None,
+        Form::Group(e) => value_in(e, known),
+        Form::Add(a, b) => value_in(a, known)?.checked_add(value_in(b, known)?),
+        Form::Subtract(a, b) => value_in(a, known)?.checked_sub(value_in(b, known)?),
+        Form::Multiply(a, b) => value_in(a, known)?.checked_mul(value_in(b, known)?),
+        Form::Divide(e, divisor) => Some(value_in(e, known)? / divisor.get()),
+        Form::Remainder(e, divisor) => Some(value_in(e, known)? % divisor.get()),
     }
 }
 
 // Whether all parts of a condition hold, if that is known of each up to the first that does not.
 pub fn truth_of(parts: &[Part], known: &[Option<u32>]) -> Option<bool>
-    ensures { IfSome result (HasTruth known.now (truth (map part_of parts.now))) }
+    ensures sure { IfSome result (HasTruth known.now (truth (map part_of parts.now))) }
+    ensures exact { result ≡ known_truth known.now (map part_of parts.now) }
 {
     match parts {
         [] => Some(true),
@@ -121,7 +139,8 @@ pub fn truth_of(parts: &[Part], known: &[Option<u32>]) -> Option<bool>
 
 // The same of one part.
 fn part_truth(part: &Part, known: &[Option<u32>]) -> Option<bool>
-    ensures { IfSome result (HasTruth known.now (part_value (part_of part.now))) }
+    ensures sure { IfSome result (HasTruth known.now (part_value (part_of part.now))) }
+    ensures exact { result ≡ known_part known.now (part_of part.now) }
 {
     match part {
         Part::Plain(test) => test_truth(test, known),
@@ -131,7 +150,8 @@ fn part_truth(part: &Part, known: &[Option<u32>]) -> Option<bool>
 
 // A comparison of known numbers; what the last cycle's flags are is not known.
 fn test_truth(test: &Test, known: &[Option<u32>]) -> Option<bool>
-    ensures { IfSome result (HasTruth known.now (test_value (test_of test.now))) }
+    ensures sure { IfSome result (HasTruth known.now (test_value (test_of test.now))) }
+    ensures exact { result ≡ known_test known.now (test_of test.now) }
 {
     match test {
         Test::Q | Test::X => None,
@@ -158,7 +178,8 @@ fn compared(comparison: Cmp, a: u32, b: u32) -> bool
 
 // A crate, if it is known.
 pub fn crate_of(e: &Expr, known: &[Option<u32>]) -> Option<CrateNo>
-    ensures { IfSome result (HasValue known.now (expression_of e.now)) }
+    ensures sure { IfSome result (HasValue known.now (expression_of e.now)) }
+    ensures exact { result ≡ known_crate known.now (expression_of e.now) }
 {
     CrateNo::new(value_of(e, known)?)
 }
@@ -176,7 +197,8 @@ pub fn at_place<T: Copy>(known: &[Option<T>], place: usize) -> Option<T>
 
 // An address, if it is known.
 fn address_of(setting: &RegisterSetting, known: &[Option<u32>]) -> Option<Address>
-    ensures { IfSome result (λ at. HasValue known.now (expression_of setting.now.crate_no) at.crate_no × HasValue known.now (expression_of setting.now.station) at.station × HasValue known.now (expression_of setting.now.sub_address) at.sub_address) }
+    ensures sure { IfSome result (λ at. HasValue known.now (expression_of setting.now.crate_no) at.crate_no × HasValue known.now (expression_of setting.now.station) at.station × HasValue known.now (expression_of setting.now.sub_address) at.sub_address) }
+    ensures exact { result ≡ known_address known.now (expression_of setting.now.crate_no) (expression_of setting.now.station) (expression_of setting.now.sub_address) }
 {
     Some(Address {
         c: value_of(&setting.crate_no, known)?,
@@ -191,7 +213,9 @@ fn single(
     variables: &mut [Option<u32>],
     registers: &[Option<Address>],
 ) -> Option<Command>
-    ensures { IfSome result (λ k. (c : Context) → MakesCycle c variables.old registers.now (single_of action.now) k variables.new) }
+    ensures sure { IfSome result (λ k. (c : Context) → MakesCycle c variables.old registers.now (single_of action.now) k variables.new) }
+    ensures exact { (lams : List At) → result ≡ known_cycle lams variables.old registers.now (single_of action.now) }
+    ensures after { IfSome result (λ k. variables.new ≡ known_after variables.old (single_of action.now)) }
 {
     let f = action.function;
     let at = at_place(registers, action.register)?;
@@ -210,7 +234,8 @@ fn single(
 
 // The word of a write, if it is known.
 fn word_of(size: WordSize, e: &Expr, known: &[Option<u32>]) -> Option<Word24>
-    ensures { IfSome result (λ word. HasValue known.now (expression_of e.now) word × (fits_size size word ≡ true)) }
+    ensures sure { IfSome result (λ word. HasValue known.now (expression_of e.now) word × (fits_size size word ≡ true)) }
+    ensures exact { result ≡ known_word size known.now (expression_of e.now) }
 {
     let word = Word24::new(value_of(e, known)?)?;
     match size {
@@ -227,7 +252,8 @@ fn word_of(size: WordSize, e: &Expr, known: &[Option<u32>]) -> Option<Word24>
 
 // A call of a crate's controller.
 fn call_of_crate(action: &CrateAction, known: &[Option<u32>]) -> Option<Command>
-    ensures { IfSome result (λ k. (c : Context) (registers : List (Option At)) → MakesCycle c known.now registers (crate_action_of action.now) k known.now) }
+    ensures sure { IfSome result (λ k. (c : Context) (registers : List (Option At)) → MakesCycle c known.now registers (crate_action_of action.now) k known.now) }
+    ensures exact { (lams : List At) (registers : List (Option At)) → result ≡ known_cycle lams known.now registers (crate_action_of action.now) }
 {
     let c = crate_of(&action.crate_no, known)?;
     Some(crate_call(action.call, c))
@@ -235,7 +261,8 @@ fn call_of_crate(action: &CrateAction, known: &[Option<u32>]) -> Option<Command>
 
 // A call at a LAM's address.
 fn call_of_lam(checked: &Checked, action: &LamAction) -> Option<Command>
-    ensures { IfSome result (λ k. (known : List (Option ℕ)) (registers : List (Option At)) → (i : ℕ) → MakesCycle (context_before checked.now i) known registers (lam_action_of action.now) k known) }
+    ensures sure { IfSome result (λ k. (known : List (Option ℕ)) (registers : List (Option At)) → (i : ℕ) → MakesCycle (context_before checked.now i) known registers (lam_action_of action.now) k known) }
+    ensures exact { (known : List (Option ℕ)) (registers : List (Option At)) (i : ℕ) → result ≡ known_cycle (context_before checked.now i).lams known registers (lam_action_of action.now) }
 {
     let lams = checked.script().lams();
     if action.lam < lams.len() {
@@ -253,7 +280,8 @@ fn call_of_lam(checked: &Checked, action: &LamAction) -> Option<Command>
 
 // The command that moves this at an address, if there is such an address.
 pub fn command_at(at: Address, f: Function, mv: DataMove) -> Option<Command>
-    ensures { IfSome result (λ k. k ≡ command_at at f mv) }
+    ensures sure { IfSome result (λ k. k ≡ command_at at f mv) }
+    ensures exact { result ≡ known_command f mv at }
 {
     Some(Command {
         c: CrateNo::new(at.c)?,
@@ -263,6 +291,7 @@ pub fn command_at(at: Address, f: Function, mv: DataMove) -> Option<Command>
         mv,
     })
 }
+
 // Takes the value at a place, if there is such a place, as this one, or as not known.
 pub fn note<T: Copy>(known: &mut [Option<T>], place: usize, value: Option<T>)
     ensures { known.new ≡ set known.old place value }

@@ -87,7 +87,7 @@ add_for-returns-in_default-value_of t c =
 pub add_for-returns : goal.add_for-returns
 add_for-returns t c =
     let h = c.args.head.now in
-    adds_for (context_of c.args.inside.now) h.spot h.variable (expression_of h.from) (expression_of h.to) (map keep_of h.keeps.items) (statements_of c.args.body.now) c.args.known.now c.add_from.new.known c.in-Some.first c.in-Some-value_of.last c.args.coming.now.ahead.items c.add_from.new.coming.ahead.items c.add_from.result c.in-Some.ensures c.in-Some-value_of.ensures c.add_from.ensures
+    adds_for (context_of c.args.inside.now) h.spot h.variable (expression_of h.from) (expression_of h.to) (map keep_of h.keeps.items) (statements_of c.args.body.now) c.args.known.now c.add_from.new.known c.in-Some.first c.in-Some-value_of.last c.args.coming.now.ahead.items c.add_from.new.coming.ahead.items c.add_from.result c.in-Some.ensures.sure c.in-Some-value_of.ensures.sure c.add_from.ensures
 
 pub add_call-returns-then-number-inside : goal.add_call-returns-then-number-inside
 add_call-returns-then-number-inside t c =
@@ -191,14 +191,14 @@ add_if-returns-then-inside-eq0 t c =
 pub add_if-returns-then-holds : goal.add_if-returns-then-holds
 add_if-returns-then-holds t c =
     let x = context_of c.args.inside.now in
-    let truth_is = rw c.as_slice.ensures.value at c.in-Some.ensures in
+    let truth_is = rw c.as_slice.ensures.value at c.in-Some.ensures.sure in
     adds_first_arm x.plan (condition_of c.args.test.now) (block_meaning x most_turns (statements_of c.args.then.now)) (block_meaning x most_turns (statements_of c.args.otherwise.now)) c.args.known.now c.add_block.new.known c.args.coming.now.ahead.items c.add_block.new.coming.ahead.items c.add_block.result c.in-Some.holds c.if-holds.true truth_is
     (rw c.within-arm.ensures at c.add_block.ensures)
 
 pub add_if-returns-else-holds : goal.add_if-returns-else-holds
 add_if-returns-else-holds t c =
     let x = context_of c.args.inside.now in
-    let truth_is = rw c.as_slice.ensures.value at c.in-Some.ensures in
+    let truth_is = rw c.as_slice.ensures.value at c.in-Some.ensures.sure in
     adds_second_arm x.plan (condition_of c.args.test.now) (block_meaning x most_turns (statements_of c.args.then.now)) (block_meaning x most_turns (statements_of c.args.otherwise.now)) c.args.known.now c.add_block-else-holds.new.known c.args.coming.now.ahead.items c.add_block-else-holds.new.coming.ahead.items c.add_block-else-holds.result c.in-Some.holds c.if-holds.false truth_is
     (rw c.within-arm.ensures at c.add_block-else-holds.ensures)
 
@@ -215,7 +215,7 @@ add_lock-returns-then-not-add_block t c =
     let inner = rw c.within.ensures at c.add_block.ensures in
     let k1 = c.add_block.new.known in
     λ spot.
-    adds_lock x c.in-Some.c (statements_of c.args.body.now) c.args.known.now k1 k1 spot (expression_of c.args.crate_no.now) c.args.coming.now.ahead.items c.lock.new.self.ahead.items c.add_block.new.coming.ahead.items false c.in-Some.ensures c.lock.ensures
+    adds_lock x c.in-Some.c (statements_of c.args.body.now) c.args.known.now k1 k1 spot (expression_of c.args.crate_no.now) c.args.coming.now.ahead.items c.lock.new.self.ahead.items c.add_block.new.coming.ahead.items false c.in-Some.ensures.sure c.lock.ensures
     (adds_no_release x c.in-Some.c (statements_of c.args.body.now) c.args.known.now k1 k1 c.lock.new.self.ahead.items c.add_block.new.coming.ahead.items c.add_block.result c.if-not-add_block.true inner)
 
 pub add_lock-returns : goal.add_lock-returns
@@ -224,7 +224,7 @@ add_lock-returns t c =
     let inner = rw c.within.ensures at c.add_block.ensures in
     let k1 = c.add_block.new.known in
     λ spot.
-    adds_lock x c.in-Some.c (statements_of c.args.body.now) c.args.known.now k1 k1 spot (expression_of c.args.crate_no.now) c.args.coming.now.ahead.items c.lock.new.self.ahead.items c.release.new.self.ahead.items c.release.result c.in-Some.ensures c.lock.ensures
+    adds_lock x c.in-Some.c (statements_of c.args.body.now) c.args.known.now k1 k1 spot (expression_of c.args.crate_no.now) c.args.coming.now.ahead.items c.lock.new.self.ahead.items c.release.new.self.ahead.items c.release.result c.in-Some.ensures.sure c.lock.ensures
     (adds_inside x c.in-Some.c (statements_of c.args.body.now) c.args.known.now k1 k1 c.lock.new.self.ahead.items c.add_block.new.coming.ahead.items c.release.new.self.ahead.items c.add_block.result c.release.result c.if-not-add_block.false inner c.release.ensures)
 
 pub add_lock-returns-in_default : goal.add_lock-returns-in_default

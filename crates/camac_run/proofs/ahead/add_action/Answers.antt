@@ -14,17 +14,17 @@ use Rattle.camac_run.proofs.ahead.add_action.Goals as goal
 pub returns-in-Makes-clause-adds : goal.returns-in-Makes-clause-adds
 returns-in-Makes-clause-adds c =
     let new : Known = record { variables = c.known_of.new.variables; registers = c.known_of.new.registers } in
-    sure_adds (context_of c.args.inside.now) (action_of c.args.action.now) c.args.known.now new c.args.coming.now.ahead.items c.push.new.self.items c.known_of.result c.in-Makes.command c.size_of_action-size.result (c.known_of.ensures c.args.inside.now.procedures) c.in-Makes.is c.push.ensures.items
+    sure_adds (context_of c.args.inside.now) (action_of c.args.action.now) c.args.known.now new c.args.coming.now.ahead.items c.push.new.self.items c.known_of.result c.in-Makes.command c.size_of_action-size.result (c.known_of.ensures.sure c.args.inside.now.procedures) c.in-Makes.is c.push.ensures.items
 
 pub returns-in-Transfers-clause-adds : goal.returns-in-Transfers-clause-adds
 returns-in-Transfers-clause-adds c =
     let new : Known = record { variables = c.known_of.new.variables; registers = c.known_of.new.registers } in
-    blocks_add (context_of c.args.inside.now) (action_of c.args.action.now) c.args.known.now new c.args.coming.now.ahead.items c.transfer.new.self.ahead.items c.known_of.result c.in-Transfers.block c.transfer.result (c.known_of.ensures c.args.inside.now.procedures) c.in-Transfers.is c.transfer.ensures
+    blocks_add (context_of c.args.inside.now) (action_of c.args.action.now) c.args.known.now new c.args.coming.now.ahead.items c.transfer.new.self.ahead.items c.known_of.result c.in-Transfers.block c.transfer.result (c.known_of.ensures.sure c.args.inside.now.procedures) c.in-Transfers.is c.transfer.ensures
 
 pub returns-in-NeedsNone-clause-adds : goal.returns-in-NeedsNone-clause-adds
 returns-in-NeedsNone-clause-adds c =
     let new : Known = record { variables = c.known_of.new.variables; registers = c.known_of.new.registers } in
-    none_adds (context_of c.args.inside.now) (action_of c.args.action.now) c.args.known.now new c.args.coming.now.ahead.items c.args.coming.now.ahead.items c.known_of.result (c.known_of.ensures c.args.inside.now.procedures) c.in-NeedsNone.is refl
+    none_adds (context_of c.args.inside.now) (action_of c.args.action.now) c.args.known.now new c.args.coming.now.ahead.items c.args.coming.now.ahead.items c.known_of.result (c.known_of.ensures.sure c.args.inside.now.procedures) c.in-NeedsNone.is refl
 
 pub returns-in-Unknown-clause-adds : goal.returns-in-Unknown-clause-adds
 returns-in-Unknown-clause-adds c =

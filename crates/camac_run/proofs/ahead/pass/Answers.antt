@@ -19,7 +19,7 @@ arguments-preserved c =
           let there : slice_get (map expression_of es) i ≡ Some (expression_of e) =
           slice_get-map expression_of es i ∙ ap (option_map expression_of) (slice_get-get_or es i e w.if-i-arguments.true ∙ ap Some (sym w.index-arguments-i.is)) in
           subst (λ o. IfSome o (λ v. IsSomeAnd (slice_get (map expression_of es) i) (λ e. HasValue c.args.variables.now e v))) (sym w.known-is)
-          (map_some w.value_of.result _ _ (λ v h. subst (λ o. IsSomeAnd o (λ e. HasValue c.args.variables.now e v)) (sym there) h) w.value_of.ensures)
+          (map_some w.value_of.result _ _ (λ v h. subst (λ o. IsSomeAnd o (λ e. HasValue c.args.variables.now e v)) (sym there) h) w.value_of.ensures.sure)
       | else-i-arguments w ↦ subst (λ o. IfSome o (λ v. IsSomeAnd (slice_get (map expression_of es) i) (λ e. HasValue c.args.variables.now e v))) (sym w.known-is) tt
     ] in
     filled_on (λ j v. IsSomeAnd (slice_get (map expression_of es) j) (λ e. HasValue c.args.variables.now e v)) c.arguments.known i its c.arguments.invariant here

@@ -21,5 +21,5 @@ returns c =
     map_some c.begun.result _ _
     (λ b is x. rw c.note.ensures
     (subst (λ (table : Option ℕ). MakesBlock x known registers (q_repeat s.spot s.function s.register table max limit s.tally) (left_by b) (set known s.tally None)) (sym none)
-    (q_repeat_makes x known registers s.function s.tally s.spot c.in_ok-at.at s.register there max c.in_ok-max.max c.in_ok-max.ensures b limit c.in_ok-limit.limit c.in_ok-limit.ensures is)))
+    (q_repeat_makes x known registers s.function s.tally s.spot c.in_ok-at.at s.register there max c.in_ok-max.max c.in_ok-max.ensures.sure b limit c.in_ok-limit.limit c.in_ok-limit.ensures.sure is)))
     c.begun.ensures

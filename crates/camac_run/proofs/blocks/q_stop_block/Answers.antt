@@ -20,5 +20,5 @@ returns c =
     map_some c.begun.result _ _
     (λ b is x. rw c.note.ensures
     (subst (λ (table : Option ℕ). MakesBlock x known registers (q_stop s.spot s.function s.register table max s.tally) (left_by b) (set known s.tally None)) (sym none)
-    (q_stop_makes x known registers s.function s.tally s.spot c.in_ok-at.at s.register there max c.in_ok-max.max c.in_ok-max.ensures b is)))
+    (q_stop_makes x known registers s.function s.tally s.spot c.in_ok-at.at s.register there max c.in_ok-max.max c.in_ok-max.ensures.sure b is)))
     c.begun.ensures

@@ -14,5 +14,5 @@ returns c =
     let there' : slice_index_or c.args.registers.now s.last None ≡ Some last = sym c.at_place-2.ensures ∙ c.in_ok-last.was in
     map_some c.begun.result _ _
     (λ b is x. rw c.note.ensures
-    (scan_makes x c.args.variables.now c.args.registers.now s.function s.tally s.spot first s.first s.last (expression_of s.max) c.in_ok-max.max last b there there' c.in_ok-max.ensures (sym c.is_same_crate.ensures ∙ c.if-not-is_same_crate.false) (rw c.window-cycles.ensures at is)))
+    (scan_makes x c.args.variables.now c.args.registers.now s.function s.tally s.spot first s.first s.last (expression_of s.max) c.in_ok-max.max last b there there' c.in_ok-max.ensures.sure (sym c.is_same_crate.ensures ∙ c.if-not-is_same_crate.false) (rw c.window-cycles.ensures at is)))
     c.begun.ensures
