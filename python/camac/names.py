@@ -55,7 +55,8 @@ class Names:
             if word in WORDS:
                 self.word(word, it.start())
                 behind_to = it.end() if word == "to" else 0
-            elif word == EACH and behind_to and _is_number(text[behind_to : it.start()]):
+            elif word == EACH and behind_to and [one.text.isdigit() for one in tokens_of(text[behind_to : it.start()])] == [True]:
+                # Behind a number alone, comments aside, it is a word of the language.
                 behind_to = 0
             elif word == "{":
                 self.open(it.start())
@@ -144,12 +145,6 @@ class Names:
                 continue
             found[symbol.name] = symbol.kind
         return found
-
-
-def _is_number(text: bytes) -> bool:
-    """Whether a text, comments aside, is a number."""
-    tokens = tokens_of(text)
-    return len(tokens) == 1 and tokens[0].text.isdigit()
 
 
 def fault_of_new_name(names: Names, symbol: Symbol, new: str) -> Optional[str]:

@@ -15,7 +15,7 @@ from camac.numbers import greatest, total
 from camac.pictures.strips import draw_strip
 from camac.pictures.svg import count, escape, share
 from camac.pictures.timeline import draw_run
-from camac.report.page import KEYS, Cell, Column, Row, figure, folded, header, panels, region_table, table
+from camac.report.page import KEYS, Cell, Column, Row, figure, header, panels, region_table, table
 from camac.runs import LONGEST, REASONS, UNFINISHED, Inputs, Run, Served
 from camac.texts import hashed, source_lines
 
@@ -177,7 +177,8 @@ def cost(facts: Facts) -> str:
     for body in facts.bodies:
         of_bit = seen.get(body.gl) if body.gl else None
         out.append(figure(draw_costs(body, facts.source, of_bit.cycles if of_bit else None, facts.bodies, has_calls=False)))
-        out += [folded(title, figure(lines)) for title, lines in draw_calls(body, facts.source, facts.bodies)]
+        drawn = draw_calls(body, facts.source, facts.bodies)
+        out += [f"<details><summary>{escape(title)}</summary>{figure(lines)}</details>" for title, lines in drawn]
     return "".join(out)
 
 
