@@ -118,10 +118,8 @@ class Names:
 
     def at(self, place: int) -> Optional[Mention]:
         """The name at a place, or right before it."""
-        for it in self.mentions[max(0, bisect_right(self.starts, place) - 2) :][:2]:
-            if it.start <= place <= it.end:
-                return it
-        return None
+        near = self.mentions[max(0, bisect_right(self.starts, place) - 2) :][:2]
+        return next((it for it in near if it.start <= place <= it.end), None)
 
     def of(self, symbol: Symbol) -> Iterator[Mention]:
         return (it for it in self.mentions if it.symbol == symbol)

@@ -145,10 +145,8 @@ def find_library() -> str:
     if named:
         return named
     here = os.path.dirname(os.path.realpath(__file__))
-    for folder in (here, os.path.abspath(os.path.join(here, *3 * [os.pardir]))):
-        if os.path.isfile(os.path.join(folder, NAME)):
-            return os.path.join(folder, NAME)
-    return NAME
+    places = (os.path.join(it, NAME) for it in (here, os.path.abspath(os.path.join(here, *3 * [os.pardir]))))
+    return next(filter(os.path.isfile, places), NAME)
 
 
 def loaded() -> str:
