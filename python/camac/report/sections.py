@@ -49,10 +49,6 @@ class Facts:
     def service(self, gl: int) -> Optional[Service]:
         return next((it for it in self.services if it.gl == gl), None)
 
-    def name(self, gl: int) -> str:
-        service = self.service(gl)
-        return service.name if service else f"GL {gl}"
-
 
 def base_name(path: File) -> str:
     return os.path.basename(os.fsdecode(path))
@@ -280,7 +276,7 @@ def services(facts: Facts) -> str:
     for k in chosen:
         service = facts.service(run.gl[k])
         part = Cell(round(run.cycles[k] / max(service.cycles, 1), 4), share(run.cycles[k], service.cycles)) if service else ""
-        row = (k + 1, facts.name(run.gl[k]), run.cycles[k], part, run.waits[k], run.locked[k])
+        row = (k + 1, service.name if service else f"GL {run.gl[k]}", run.cycles[k], part, run.waits[k], run.locked[k])
         rows.append((*row, run.no_q[k], run.of_transfers[k], run.no_x[k], run.words[k]))
     titles = "cycles,of bound,waits,in a lock,Q = 0,Q end,X = 0,words".split(",")
     columns = [Column("event"), Column("service", True), *map(Column, titles)]
