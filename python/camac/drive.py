@@ -26,13 +26,7 @@ GREATEST_TIMEOUT = 2_147_483
 PATIENCE = 60.0
 LINE = "%d %d %06x %x %06x"
 BYTES = LINE.encode() + b"\n"
-
-class _Numbers(NamedTuple):
-    x: int
-    q: int
-    word: int
-    wait: int
-    gl: int
+_Numbers = NamedTuple("_Numbers", [("x", int), ("q", int), ("word", int), ("wait", int), ("gl", int)])
 
 
 class Answer(_Numbers):
@@ -145,7 +139,6 @@ class UsageFault(ProgramFault):
 
 
 def fault_of(errors: str, status: int, end: Optional[RunEnd] = None) -> ProgramFault:
-    """The fault of a program that ended with a status of faults."""
     return UsageFault(errors, status) if status == 2 else ProgramFault(errors, status, end)
 
 
@@ -234,8 +227,6 @@ def drive(
 
 
 class Lockouts:
-    """The lockouts that a branch holds in a run."""
-
     def __init__(self, branch: Branch, signals: "Signals") -> None:
         self.branch, self.signals = branch, signals
         self.held: List[int] = []

@@ -1,9 +1,10 @@
 """Event files of camac, of both versions and of any size."""
 import contextlib
+import functools
 import io
 import os
 import struct
-from typing import TYPE_CHECKING, Any, BinaryIO, Callable, Dict, Iterator, List, NamedTuple, Optional, Tuple, Union
+from typing import TYPE_CHECKING, Any, BinaryIO, Callable, Iterator, List, NamedTuple, Optional, Tuple, Union
 
 if TYPE_CHECKING:
     Path = Union[str, bytes, os.PathLike[str], os.PathLike[bytes]]
@@ -84,15 +85,10 @@ class Whole(NamedTuple):
     fault: Optional[EventFileFault]
 
 
-class _Words(Dict[int, Callable[[bytes, int], Tuple[int, ...]]]):
-    """Reads a number of words at a place."""
-
-    def __missing__(self, count: int) -> Callable[[bytes, int], Tuple[int, ...]]:
-        self[count] = struct.Struct(f">{count}I").unpack_from
-        return self[count]
-
-
-_WORDS = _Words()
+@functools.lru_cache(maxsize=None)
+def _words(count: int) -> Callable[[bytes, int], Tuple[int, ...]]:
+    """What reads so many words at a place."""
+    return struct.Struct(f">{count}I").unpack_from
 
 
 class _Source:
@@ -154,7 +150,7 @@ def read_from(file: BinaryIO, form: Form, data: bytes, number: int = 1, place: i
             words_at, end = end, end + 4 * count
             if end > there or any(data[words_at:end:4]):
                 break
-            yield Event(number, gl, cycles, missed, _WORDS[count](data, words_at))
+            yield Event(number, gl, cycles, missed, _words(count)(data, words_at))
             number, at, end = number + 1, end, end + head
         # The rest is no record, or not yet a whole one.
         _refuse(form, data[at : end if end <= there else at + head], number, place + at, is_whole=end <= there)
@@ -184,7 +180,7 @@ def _wrong_field(form: Form, record: bytes, number: int) -> Optional[Tuple[str, 
         if not right.get(code, True):
             return code, place
     there = min(count, (len(record) - head) // 4)
-    for at, word in enumerate(_WORDS[there](record, head)):
+    for at, word in enumerate(_words(there)(record, head)):
         if word > GREATEST_WORD:
             return "V6", head + 4 * at
     return ("V7", head + 4 * there) if there < count else None

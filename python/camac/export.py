@@ -138,7 +138,7 @@ def tables(events: EventArrays, about: About, number: int = 1, row: int = 0) -> 
         Series("words", "word", events.words, "", "all 24 bits"),
     ]
     if about.sources.fields:
-        found.append(Series("words", "source", _sources(numpy, events, of_words[1] * numpy.uint32(GREATEST_COUNT + 1) + places, about.sources), "", SOURCE))
+        found.append(Series("words", "source", sources_of(numpy, events, places, about.sources), "", SOURCE))
     return found + list(_named(numpy, events, about.words, {it.name for it in found if it.table == "words"}))
 
 
@@ -147,9 +147,9 @@ GL = "the bit of the graded-L pattern whose service made it"
 SOURCE = "where it was read: a number in `sources`, and 0 if that is not fixed"
 
 
-def _sources(numpy: Any, events: EventArrays, at: Array, sources: Words) -> Array:
-    """The number of each word's source, by its place in a table of bits and places. A script gives each place of a service one, and others in events of one
-    count alone."""
+def sources_of(numpy: Any, events: EventArrays, places: Array, sources: Words) -> Array:
+    """The number of the source of each word, whose places are given from 1, in a table of bits and places. A script gives each place of a service one, and
+    others in events of one count alone."""
     always = numpy.zeros((GREATEST_GL + 1, GREATEST_COUNT + 1), "u2" if len(sources.fields) < 1 << 16 else "u4")
     counted, count_of = always.copy(), numpy.full(GREATEST_GL + 1, MISSING)
     for number, field in enumerate(sources.fields, 1):
@@ -157,6 +157,7 @@ def _sources(numpy: Any, events: EventArrays, at: Array, sources: Words) -> Arra
         if field.count is not None:
             count_of[field.gl] = field.count
     counts = numpy.diff(events.first)
+    at = numpy.repeat(events.gl, counts) * numpy.uint32(GREATEST_COUNT + 1) + places
     found = always.take(at)
     if (count_of != MISSING).any():
         is_counted = numpy.repeat(counts == count_of[events.gl], counts)

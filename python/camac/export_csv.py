@@ -6,6 +6,7 @@ from typing import Any, BinaryIO, Dict, Iterable, Iterator, List, NamedTuple, Se
 
 from camac.arrays import Array, EventArrays, Events, as_events
 from camac.events import Event
+from camac.export import sources_of
 from camac.words import Words
 
 # A byte that is in no text.
@@ -84,21 +85,15 @@ def _write_arrays(piece: EventArrays, table: Table, number: int, first: int, to_
     if len(piece.words):
         places = numpy.arange(len(piece.words)) - numpy.repeat(piece.first[:-1], counts)
         of_event = [numpy.repeat(_digits(numpy, it), counts, axis=0) for it in (numbers, piece.gl)]
-        sources = [_sources(numpy, piece.gl, counts, places, table)] if table.sources.fields else []
+        sources = [_sources(numpy, piece, places + 1, table.sources)] if table.sources.fields else []
         to_words.write(_rows(numpy, [*of_event, _digits(numpy, numpy.arange(1, counts.max() + 1))[places], piece.words, *sources]))
 
 
-def _sources(numpy: Any, gl: Array, counts: Array, places: Array, table: Table) -> Array:
-    """The texts of the sources of all words, whose places are from 0, in rows of bytes."""
-    kinds, kind = numpy.unique(gl.astype("i8") << 32 | counts, return_inverse=True)
-    texts: List[bytes] = []
-    starts = []
-    for one in kinds.tolist():
-        starts.append(len(texts))
-        texts += [_text([["", *row[4:]]])[1:-1].encode() for row in table.first_columns(Event(0, one >> 32, 0, 0, (0,) * (one & 0xFFFFFFFF)))]
-    rows = numpy.array(texts, "S")
-    rows = rows.view("u1").reshape(len(texts), rows.itemsize)
-    return numpy.where(rows, rows, NOTHING).astype("u1")[numpy.repeat(numpy.array(starts)[kind], counts) + places]
+def _sources(numpy: Any, piece: EventArrays, places: Array, sources: Words) -> Array:
+    """The texts of the sources of all words, whose places are from 1, in rows of bytes."""
+    texts = numpy.array([_text([["", name]])[1:-1].encode() for name in ("", *(it.name for it in sources.fields))], "S")
+    rows = texts.view("u1").reshape(len(texts), texts.itemsize)
+    return numpy.where(rows, rows, NOTHING).astype("u1")[sources_of(numpy, piece, places, sources)]
 
 
 def _digits(numpy: Any, numbers: Array) -> Array:

@@ -151,19 +151,14 @@ def _faults(call: Callable[[], List[Found]], files: List[TextFile]) -> List[Foun
 def _refused(plan: TextFile, explained: Explanation) -> Found:
     code, line, rule, column = explained.refusal
     if line is None:
-        line, column = _place_in_plan(plan, explained.sentence)
+        # Few calls need this module, so it is loaded here.
+        from camac.toml_places import place_of
+
+        its_text = plan.text().decode("utf-8", "replace")
+        start = place_of(its_text, explained.sentence).start
+        line, column = its_text.count("\n", 0, start) + 1, start - its_text.rfind("\n", 0, start)
     text = f"{rule} ({SWAPPED})" if any(it.endswith(f"{SWAPPED}.") for it in explained.lines) else rule
     return Found("refused", line, code, text, explained.lines, column)
-
-
-def _place_in_plan(plan: TextFile, sentence: str) -> Tuple[int, int]:
-    """The line and the column, in characters from 1, of what a sentence on a plan is about."""
-    # Few calls need this module, so it is loaded here.
-    from camac.toml_places import place_of
-
-    text = plan.text().decode("utf-8", "replace")
-    start = place_of(text, sentence).start
-    return text.count("\n", 0, start) + 1, start - text.rfind("\n", 0, start)
 
 
 def advised(judged: Sequence[Judged], program: Optional[File] = None) -> List[Judged]:

@@ -1,7 +1,7 @@
 """The one layout of scripts: two spaces a block, one statement a line, comments kept. What is laid out has the same tokens and the same comments."""
 import re
-from itertools import chain
-from typing import Iterator, List, NamedTuple, Optional, Sequence, Tuple
+from itertools import accumulate, chain
+from typing import Dict, Iterator, List, NamedTuple, Optional, Sequence, Tuple
 
 from camac.language import DECLARATIONS, NO_ASSIGNMENT, STATEMENTS
 from camac.texts import GREATEST_DEPTH, GREATEST_TEXT
@@ -234,26 +234,15 @@ def _spaced(words: List[str]) -> str:
 
 def _written(lines: List[Line]) -> str:
     """The text of lines. The comments behind the code of lines that follow each other are below each other."""
+    runs = [*accumulate(it.is_apart or not (it.code and it.comment) for it in lines)]
+    widths: Dict[int, int] = {}
+    for run, it in zip(runs, lines):
+        if it.code and it.comment:
+            widths[run] = max(widths.get(run, 0), it.indent + len(it.code))
     made: List[str] = []
-    width = 0
-    for at, it in enumerate(lines):
+    for run, it in zip(runs, lines):
         code = " " * it.indent + it.code
         if it.code and it.comment:
-            if not (at and _is_in_row(lines[at - 1]) and not it.is_apart):
-                width = _width(lines, at)
-            code = f"{code:{width}}  {it.comment}"
+            code = f"{code:{widths[run]}}  {it.comment}"
         made.append("\n" * it.is_apart + (code if it.code else code + it.comment) + "\n")
     return "".join(made)
-
-
-def _is_in_row(it: Line) -> bool:
-    return bool(it.code and it.comment)
-
-
-def _width(lines: List[Line], at: int) -> int:
-    """How long the code is of the longest of the lines from one on whose comments are below each other."""
-    width = 0
-    while at < len(lines) and _is_in_row(lines[at]) and not (width and lines[at].is_apart):
-        width = max(width, lines[at].indent + len(lines[at].code))
-        at += 1
-    return width

@@ -39,13 +39,6 @@ LONGEST = 16 + 4 * EVENT_WORDS
 FAULTS = {NO_MEMORY: ("fault memory", 3), LONG: ("fault input too long", 3)}
 SPENT_LINE = "refused A4 line 4294967296: too many answers"
 MISUSED = "{} needs each service of the script once at most, as adc=200, with a number from 0, or from 1 of `every`, to 4294967295"
-CLOSED = "{} needs an open session: this one is closed"
-PAUSED = "{} needs a run that does not pause: go_on comes first"
-LIMIT_RANGE = "limit_steps needs a number from 0 to 4294967295"
-NO_BLOCK = "block needs an open session that wants a block, and an answer"
-NO_DEMAND = "service_ahead needs an open session that wants a demand, and the number of a service, from 1"
-NO_LIST = "next_list needs a list of `ahead`: an answer of each operation, one or more of a block, none of a release"
-MODES_RANGE = "blocks needs a sum of Q_STOP, Q_REPEAT, SCAN, WRITES and IN_LISTS"
 # A session makes no more steps at once. They take a tenth of a second at worst; between them other threads run, and signals come.
 STEPS = 5_000
 
@@ -110,7 +103,8 @@ def _test(call: str, code: int, *others: int) -> None:
     if code == SPENT:
         raise OverflowError(SPENT_LINE)
     if code in (MISUSE, BUSY):
-        raise UsageFault((CLOSED if code == MISUSE else PAUSED).format(call), 2)
+        needs = "an open session: this one is closed" if code == MISUSE else "a run that does not pause: go_on comes first"
+        raise UsageFault(f"{call} needs {needs}", 2)
     raise RuntimeError(f"the library answers {call} with the code {code}")
 
 
@@ -283,7 +277,7 @@ class Session:
         wants[0].size = ctypes.sizeof(Want)
         number = service if 0 < service <= self._calls.camac_services(self._at) else 0
         if self._calls.camac_service_ahead(self._at, number, wants, max(0, min(room, native.AHEAD)), byref(count)) != OK:
-            raise UsageFault(NO_DEMAND, 2)
+            raise UsageFault("service_ahead needs an open session that wants a demand, and the number of a service, from 1", 2)
         return list(wants[: count.value])
 
     def back(self) -> List[Want]:
@@ -334,7 +328,7 @@ class Session:
         transfer is one want, of kind BLOCK; with IN_LISTS lists go on behind blocks, and behind releases of lockouts, wants of kind UNLOCK. Raises UsageFault
         if it is no such sum."""
         if not 0 <= modes <= Q_STOP + Q_REPEAT + SCAN + WRITES + IN_LISTS:
-            raise UsageFault(MODES_RANGE, 2)
+            raise UsageFault("blocks needs a sum of Q_STOP, Q_REPEAT, SCAN, WRITES and IN_LISTS", 2)
         _test("blocks", self._calls.camac_blocks(self._at, modes))
 
     def block_words(self) -> Tuple[int, ...]:
@@ -349,7 +343,7 @@ class Session:
         self._lines = b""
         code = self._calls.camac_block(self._at, _answers(given), self._to_progress, len(given), byref(taken))
         if code == MISUSE:
-            raise UsageFault(NO_BLOCK, 2)
+            raise UsageFault("block needs an open session that wants a block, and an answer", 2)
         self._heed("block", code)
         return self._progress, taken.value
 
@@ -361,7 +355,7 @@ class Session:
         listed = listed[: len(answers)]
         for want, cycles in itertools.zip_longest(listed, answers):
             if want is None or not (cycles if want.kind == BLOCK else len(cycles) == (want.kind != UNLOCK)):
-                raise UsageFault(NO_LIST, 2)
+                raise UsageFault("next_list needs a list of `ahead`: an answer of each operation, one or more of a block, none of a release", 2)
         structs, did = _answers(list(itertools.chain(*answers))), (Progress * (len(listed) + 1))()
         did[0].size = ctypes.sizeof(Progress)
         self._lines = b""
@@ -398,7 +392,7 @@ class Session:
         """Sets how many steps the run makes at once: in an answer or a `go_on`, after more, it pauses. Raises UsageFault if the number is not from 0 to
         4,294,967,295, which is no limit."""
         if not 0 <= most <= NO_LIMIT:
-            raise UsageFault(LIMIT_RANGE, 2)
+            raise UsageFault("limit_steps needs a number from 0 to 4294967295", 2)
         self._is_whole = most == NO_LIMIT
         _test("limit_steps", self._calls.camac_limit_steps(self._at, STEPS if self._is_whole else most))
 
@@ -524,11 +518,8 @@ def play(
         return signals.heed(lambda: game.seen.told(end, plan, program or IN_PROCESS))
 
 
-class _Made(NamedTuple):
-    """A block that the branch made, with its answers."""
-
-    block: Block
-    answers: Tuple[Answer, ...]
+# A block that the branch made, with its answers.
+_Made = Tuple[Block, Tuple[Answer, ...]]
 
 
 def commands_of(block: Block, answers: Iterable[Answer]) -> Iterator[Tuple[int, int, int, int]]:
@@ -566,7 +557,7 @@ class _Game:
             if answer is None:
                 return RunEnd(Ending.ENDED, f"ended events {self.events}", self.events)
             try:
-                progress, want = self.session.step(answer) if isinstance(answer, Answer) else self.take_block(answer)
+                progress, want = self.session.step(answer) if isinstance(answer, Answer) else self.take_block(*answer)
             except OverflowError:
                 return RunEnd(Ending.REFUSED, SPENT_LINE)
             if progress.event or progress.first_unlocked:
@@ -587,7 +578,7 @@ class _Game:
             answers = tuple(self.make_block(block))
             if not answers or not all(isinstance(it, Answer) for it in answers):
                 raise TypeError(f"the branch has to answer a block with one Answer or more, not {answers!r}")
-            return _Made(block, answers)
+            return block, answers
         if kind == CYCLE:
             answer = self.branch.cycle(c, n, a, f, want.word if data == WRITE else None)
         elif kind == DEMAND:
@@ -601,13 +592,13 @@ class _Game:
             return answer
         raise TypeError(f"the branch has to answer an operation with an Answer, not {answer!r}")
 
-    def take_block(self, made: "_Made") -> Tuple[Progress, Optional[Want]]:
+    def take_block(self, block: Block, answers: Tuple[Answer, ...]) -> Tuple[Progress, Optional[Want]]:
         """Takes the answers of a block, and returns what the last one did, and what is wanted then."""
-        progress, taken = self.session.block(made.answers)
+        progress, taken = self.session.block(answers)
         is_over = progress.kind == native.STOPPED
-        if taken + is_over < len(made.answers):
-            raise TypeError(f"the branch gave {len(made.answers)} answers to a block that ended with {taken + is_over}")
-        for command, answer in zip(commands_of(made.block, made.answers), made.answers):
+        if taken + is_over < len(answers):
+            raise TypeError(f"the branch gave {len(answers)} answers to a block that ended with {taken + is_over}")
+        for command, answer in zip(commands_of(block, answers), answers):
             self.seen.answer(command, answer)
         return progress, None if is_over else self.session.wants()
 
@@ -646,11 +637,9 @@ def _writes(path: File) -> Iterator[None]:
 
 
 def _write(path: File, file: FileIO, data: bytes) -> None:
-    try:
+    with _writes(path):
         while data:
             data = data[file.write(data) :]
-    except OSError as why:
-        raise file_fault("write", path, why) from why
 
 
 @contextlib.contextmanager

@@ -55,7 +55,8 @@ class Names:
             if word in WORDS:
                 self.word(word, it.start())
                 behind_to = it.end() if word == "to" else 0
-            elif word == EACH and behind_to and _is_number(text[behind_to : it.start()]):
+            elif word == EACH and behind_to and [one.text.isdigit() for one in tokens_of(text[behind_to : it.start()])] == [True]:
+                # Behind a number alone, comments aside, it is a word of the language.
                 behind_to = 0
             elif word == "{":
                 self.open(it.start())
@@ -117,10 +118,8 @@ class Names:
 
     def at(self, place: int) -> Optional[Mention]:
         """The name at a place, or right before it."""
-        for it in self.mentions[max(0, bisect_right(self.starts, place) - 2) :][:2]:
-            if it.start <= place <= it.end:
-                return it
-        return None
+        near = self.mentions[max(0, bisect_right(self.starts, place) - 2) :][:2]
+        return next((it for it in near if it.start <= place <= it.end), None)
 
     def of(self, symbol: Symbol) -> Iterator[Mention]:
         return (it for it in self.mentions if it.symbol == symbol)
@@ -144,12 +143,6 @@ class Names:
                 continue
             found[symbol.name] = symbol.kind
         return found
-
-
-def _is_number(text: bytes) -> bool:
-    """Whether a text, comments aside, is a number."""
-    tokens = tokens_of(text)
-    return len(tokens) == 1 and tokens[0].text.isdigit()
 
 
 def fault_of_new_name(names: Names, symbol: Symbol, new: str) -> Optional[str]:

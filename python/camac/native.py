@@ -59,8 +59,6 @@ class Want(_Sized):
 
 
 class AnswerStruct(_Sized):
-    """An answer, as C has it."""
-
     _fields_ = [*_fields(c_uint32, "size word gl"), *_fields(c_uint8, "x q wait unused"), ("spare", c_uint32 * 4)]
 
 
@@ -97,8 +95,6 @@ class Progress(_Sized):
 
 
 class ServiceStruct(_Sized):
-    """A service of the script, as C has it."""
-
     _fields_ = [
         ("size", c_uint32), ("name", c_char * 36), *_fields(c_uint32, "c n a gl line cycles words steps most_cycles most_words"),
         ("spare", c_uint32 * 4),
@@ -149,10 +145,8 @@ def find_library() -> str:
     if named:
         return named
     here = os.path.dirname(os.path.realpath(__file__))
-    for folder in (here, os.path.abspath(os.path.join(here, *3 * [os.pardir]))):
-        if os.path.isfile(os.path.join(folder, NAME)):
-            return os.path.join(folder, NAME)
-    return NAME
+    places = (os.path.join(it, NAME) for it in (here, os.path.abspath(os.path.join(here, *3 * [os.pardir]))))
+    return next(filter(os.path.isfile, places), NAME)
 
 
 def loaded() -> str:
@@ -165,7 +159,6 @@ def loaded() -> str:
 
 
 def version() -> str:
-    """The version of the library."""
     return version_text(load().texts.camac_version())
 
 

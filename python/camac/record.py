@@ -166,6 +166,9 @@ def parse_record(data: bytes) -> Record:
     events, measured, rows = fields["events"], fields["measured_seconds"] or {}, fields.get("contradictions")
     if not all(isinstance(it, str) for it in (fields["title"], *fields["verdict"], *fields["response"], *fields["versions"].values())):
         raise TypeError
+    if fields.get("survey"):
+        # The modules of a survey take as long to load as those of a record.
+        from camac.surveys.summary import parse_summary
     return Record(
         **{name: fields[name] for name in ("number", "title", "begin", "end", "told", "how", "line")},
         plan=Source.read(fields["plan"]),
@@ -178,16 +181,9 @@ def parse_record(data: bytes) -> Record:
         demands=measured.get("demands"),
         services=measured.get("services"),
         versions=fields["versions"],
-        survey=_parse_survey(fields["survey"]) if fields.get("survey") else None,
+        survey=parse_summary(fields["survey"]) if fields.get("survey") else None,
         contradictions=None if rows is None else tuple(Contradiction(str(it["place"]), str(it["what"]), operator.index(it["times"])) for it in rows),
     )
-
-
-def _parse_survey(fields: Any) -> "Summary":
-    # The modules of a survey take as long to load as those of a record.
-    from camac.surveys.summary import parse_summary
-
-    return parse_summary(fields)
 
 
 def texts_of(plan: File, script: File) -> Tuple[Source, Source]:

@@ -47,10 +47,11 @@ class Inputs(NamedTuple):
 
 
 class Seen:
-    """The counts of a number in some services."""
+    """How many numbers there are, one at least, the least, their mean and the greatest."""
 
-    def __init__(self, count: int, least: int, mean: float, most: int) -> None:
-        self.count, self.least, self.mean, self.most = count, least, mean, most
+    def __init__(self, numbers: Sequence[int]) -> None:
+        self.count, self.mean = len(numbers), total(numbers) / len(numbers)
+        self.least, self.most = ends(numbers)
 
 
 class SeenOfBit:
@@ -257,7 +258,6 @@ class Run:
             numbers.frombytes(column.astype(numbers.typecode).tobytes())
 
     def take_words(self, of: Sequence[Group]) -> None:
-        """Takes the words of events."""
         by_place: Dict[Tuple[int, int], List[Numbers]] = {}
         for it in of:
             for at, words in enumerate(it.words):
@@ -329,7 +329,7 @@ def collect(
                 text = f"no service ended later after its look-at-me than its bound, of {kept:,} in whose stretch the rates were kept"
                 made.checks.append(Check(text, is_within))
     its_columns = (getattr(made, name) for name in ("gl", "cycles", "words", "waits", "no_q", "of_transfers", "no_x"))
-    made.seen = {gl: SeenOfBit(_seen_of(columns[0]), _seen_of(columns[1]), *map(total, columns[2:])) for gl, columns in by_bit(*its_columns)}
+    made.seen = {gl: SeenOfBit(Seen(columns[0]), Seen(columns[1]), *map(total, columns[2:])) for gl, columns in by_bit(*its_columns)}
     return made
 
 
@@ -339,11 +339,6 @@ def by_bit(bits: Numbers, *columns: Numbers) -> Iterator[Tuple[int, List[Numbers
     found = kinds(bits)
     for gl in found:
         yield gl, wholes if len(found) == 1 else chosen(bits, [gl], wholes)
-
-
-def _seen_of(numbers: Sequence[int]) -> Seen:
-    least, most = ends(numbers)
-    return Seen(len(numbers), least, total(numbers) / len(numbers), most)
 
 
 class _Collector:

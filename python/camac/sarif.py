@@ -7,8 +7,6 @@ from urllib.parse import quote
 from camac.judge import LEVELS, Found, Judged
 
 SCHEMA = "https://docs.oasis-open.org/sarif/sarif/v2.1.0/errata01/os/schemas/sarif-schema-2.1.0.json"
-# What SARIF calls the levels of annotations.
-LEVEL_OF = {"error": "error", "warning": "warning", "notice": "note"}
 
 
 def sarif(judged: Sequence[Judged], version: str) -> str:
@@ -37,7 +35,8 @@ def _result(of: Judged, found: Found, rules: List[str]) -> Dict[str, Any]:
     return {
         "ruleId": _rule(found),
         "ruleIndex": rules.index(_rule(found)),
-        "level": LEVEL_OF[LEVELS[found.kind]],
+        # What annotations call a notice is a note here.
+        "level": LEVELS[found.kind].replace("notice", "note"),
         "message": {"text": "\n".join([found.text, *found.explanation])},
         "locations": [{"physicalLocation": place}],
     }

@@ -23,7 +23,7 @@ from camac.report.page import Column, Row, figure, header, page, panels, region_
 from camac.runs import Asked, Channel, Channels, Cut, Over
 from camac.subcommands import response
 from camac.values import Contradiction, Response
-from camac.watch_page import FORM, LOST, MORE, NOTES, SCRIPT, STYLE, list_page
+from camac.watch_page import ASK, FORM, LOST, MORE, NOTES, SCRIPT, STYLE
 
 HOST = "127.0.0.1"
 # The seconds between two looks at the file.
@@ -103,7 +103,8 @@ class RunList:
         return f'{link}: <b class="{"good" if is_good else "bad"}">{escape(state)}</b>, {escape(", ".join(filter(None, texts)))}'
 
     def page(self) -> str:
-        return list_page(os.path.basename(os.path.abspath(self.folder)))
+        head = header(os.path.basename(os.path.abspath(self.folder)), [LOST])
+        return page("Runs", head, ['<ul id="runs"></ul>'], ASK + "ask();", MORE)
 
 
 class Look(NamedTuple):

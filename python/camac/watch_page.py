@@ -1,5 +1,5 @@
 """What the pages of `watch` have besides their parts: what the spectra show is chosen in a form, and a script asks for the parts again and again."""
-from camac.report.page import KEYS, header, page
+from camac.report.page import KEYS
 
 LOST = '<p class="bad" id="lost" role="alert" hidden>The command <code>watch</code> does not answer.</p>'
 # What a page may fetch, and the seconds between two questions.
@@ -69,8 +69,3 @@ document.getElementById('one').ondblclick=function(){document.getElementById('wh
 ask();
 """
 )
-
-
-def list_page(title: str) -> str:
-    """The page of a list of runs."""
-    return page("Runs", header(title, [LOST]), ['<ul id="runs"></ul>'], ASK + "ask();", MORE)

@@ -155,10 +155,8 @@ class Words:
 
     def tag_of(self, field: Field) -> Optional[Field]:
         """The field whose number chooses the column of another one: it is in the same words. None if none does."""
-        for it in self.fields:
-            if it.gl == field.gl and it.name == field.of and it.places[0] <= field.places[0] and field.places[1] <= it.places[1]:
-                return it
-        return None
+        named = (it for it in self.fields if it.gl == field.gl and it.name == field.of)
+        return next((it for it in named if it.places[0] <= field.places[0] and field.places[1] <= it.places[1]), None)
 
     def columns(self, gl: int) -> Tuple[Column, ...]:
         """The columns of a service, in their order."""

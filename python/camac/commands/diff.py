@@ -1,6 +1,6 @@
 """diff: compares what services may take before and after a change, and which commands a plan gains and loses."""
 import argparse
-from typing import Any, Dict, Iterator, List, Mapping, NamedTuple, Optional, Set, Tuple
+from typing import Any, Dict, Iterator, List, NamedTuple, Optional, Set, Tuple
 
 from camac import functions
 from camac.commands.running import DONE, REFUSED, add_every
@@ -41,7 +41,8 @@ def do(args: argparse.Namespace) -> int:
     bounds = []
     for plan, script in pairs:
         try:
-            bounds.append(bounds_of(plan, script, args.every))
+            late = {it.name: it for it in response(plan, script, args.every)}
+            bounds.append({it.name: Bounds(it.cycles, it.words, it.steps, late[it.name].start, late[it.name].end) for it in check(plan, script)})
         except Refused as refusal:
             place = plan if refusal.line is None else f"{script}:{refusal.line}"
             say(f"{place}: refused {refusal.code}: {refusal.rule}\n")
@@ -90,12 +91,6 @@ class Change(NamedTuple):
 
 def _shown(value: Optional[int]) -> str:
     return "-" if value is None else str(value)
-
-
-def bounds_of(plan: File, script: File, every: Mapping[str, int]) -> Dict[str, Bounds]:
-    """What the services of a script may take. `every` has the rates of modules, as `camac.response` takes them. Raises as that does."""
-    late = {it.name: it for it in response(plan, script, every)}
-    return {it.name: Bounds(it.cycles, it.words, it.steps, late[it.name].start, late[it.name].end) for it in check(plan, script)}
 
 
 def changes(before: Dict[str, Bounds], after: Dict[str, Bounds]) -> List[Change]:

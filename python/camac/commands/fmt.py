@@ -12,7 +12,6 @@ Puts scripts into one layout: two spaces a block, one statement a line, comments
 stays as it is. A block of one statement on one line stays there."""
 STATUS = """\
 Status: 0 done; 1 a script has no layout, or with --check another one; 2 usage; 3 a file failed."""
-STANDARD = "-"
 
 
 def add_to(commands: Any) -> None:
@@ -36,7 +35,7 @@ def _lay_out(file: str, is_check: bool) -> Tuple[int, str]:
     """Puts a script into the one layout; if `is_check`, nothing is written. A script that has no layout stays as it is. Returns the status
     for it, and what has failed, if that is no other layout."""
     try:
-        if file == STANDARD:
+        if file == "-":
             with open(0, "rb", closefd=False) as given:
                 text = given.read()
             made = formatted(text)

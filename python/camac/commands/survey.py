@@ -53,7 +53,7 @@ def do(args: argparse.Namespace) -> int:
         if os.listdir(args.keep):
             raise ProgramFault(f"{args.keep} is not empty", FAULT)
     if args.out:
-        from camac.surveys.summary import refuse_foreign, summary
+        from camac.surveys.summary import Summary, refuse_foreign
 
         rule = anything if args.overwrite else refuse_foreign
         refuse_loss(args.out, rule)
@@ -68,7 +68,8 @@ def do(args: argparse.Namespace) -> int:
     _keep(args.keep, surveyed.scripts())
     if args.out:
         with output(args.out, rule) as out:
-            out.write(summary(surveyed, hashed(plan_text(args.plan)).hexdigest()).text())
+            digest = hashed(plan_text(args.plan)).hexdigest()
+            out.write(Summary(surveyed.at, digest, surveyed.sent(), surveyed.differences(), surveyed.not_tried()).text())
     return REFUSED if surveyed.differences() else DONE
 
 

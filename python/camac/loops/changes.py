@@ -9,8 +9,6 @@ from camac.texts import Edit
 from camac.tree import Assign, Expression, If, Name, Number, Operation, Part, Plain, Statement, While, names_in, parts_of
 
 MOST, WORD = 4_294_967_295, 16_777_216
-NOT_BELOW, FALLS = "0 if it would be below 0", "true unless it would fall below 0"
-OFFSET, TWO_WORDS = "{} more than the difference", "two words, the high one first"
 LEAVES_OUT = "leaves out what would bring it above {}"
 # What adds more at once may grow to more than one word.
 MOST_STEP = WORD // 16
@@ -80,13 +78,13 @@ class Changes:
         source = self.source(value)
         if isinstance(value, Operation) and value.sign in "+-":
             source = f"({source})"
-        return Change(Kind.WORDS, it.start, it.end, f"put {source} / {WORD}  put {source} % {WORD}", TWO_WORDS)
+        return Change(Kind.WORDS, it.start, it.end, f"put {source} / {WORD}  put {source} % {WORD}", "two words, the high one first")
 
     def fall(self, it: Statement, fall: Operation, most: int) -> Optional[Change]:
         """A difference in another form. `most` is what is added to it, so that it does not fall below 0; 0 if that is too much."""
         left, right = self.source(fall.left), self.source(fall.right)
         if isinstance(it, Assign) and it.value is fall and isinstance(fall.left, Name) and fall.left.name == it.name and isinstance(fall.right, Number):
-            return Change(Kind.GUARD, it.start, it.end, f"if {left} >= {right} {{ {one_line(self.text, it.start, it.end)} }}", FALLS)
+            return Change(Kind.GUARD, it.start, it.end, f"if {left} >= {right} {{ {one_line(self.text, it.start, it.end)} }}", "true unless it would fall below 0")
         if isinstance(it, (If, While)):
             return next((self.turned(one, left, right, one.sides.index(fall)) for one in it.parts if one.sides and fall in one.sides), None)
         if not most:
@@ -95,9 +93,9 @@ class Changes:
         if isinstance(it, Assign) and it.value is fall:
             name = it.name
             text = f"{name} = {raised}  if {name} >= {most} {{ {name} = {name} - {most} }} else {{ {name} = 0 }}"
-            return Change(Kind.DIFFERENCE, it.start, it.end, text, NOT_BELOW)
+            return Change(Kind.DIFFERENCE, it.start, it.end, text, "0 if it would be below 0")
         is_put = isinstance(it, Plain) and it.word == "put" and it.values[0] is fall
-        return Change(Kind.DIFFERENCE, it.start, it.end, f"put {raised}", OFFSET.format(most)) if is_put else None
+        return Change(Kind.DIFFERENCE, it.start, it.end, f"put {raised}", f"{most} more than the difference") if is_put else None
 
     def turned(self, part: Part, left: str, right: str, side: int) -> Change:
         """A comparison with a difference: what is taken away on one side is added on the other."""

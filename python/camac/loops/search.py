@@ -76,8 +76,6 @@ def least_ranges(plan: File, script: bytes, bodies: Sequence[Body], kept: Abstra
 
 
 class _Search:
-    """A search for what the loops of one script need."""
-
     def __init__(self, plan: File, text: bytes, bodies: Sequence[Body], program: Optional[File], keeps_only: bool = False) -> None:
         self.text, self.bodies, self.keeps_only = text, bodies, keeps_only
         self.trials = Trials(plan, text, self.bodies, program)
@@ -193,7 +191,6 @@ class _Search:
         return bool(new)
 
     def change(self, stopped: Stopped) -> bool:
-        """Changes the statement that is refused."""
         it = stopped.about
         if self.keeps_only or not isinstance(it, Statement) or it in self.found.changed:
             return False

@@ -22,11 +22,9 @@ def page(name: str) -> Optional[str]:
     """The URI of a page of the documentation, where ./install put it, or in the repository."""
     import pathlib
 
-    for folder in pathlib.Path(__file__).resolve().parents:
-        for it in (folder / "docs" / name, folder / "share/doc/camac/docs" / name):
-            if it.is_file():
-                return it.as_uri()
-    return None
+    folders = pathlib.Path(__file__).resolve().parents
+    places = (it / docs / name for it in folders for docs in ("docs", "share/doc/camac/docs"))
+    return next((it.as_uri() for it in places if it.is_file()), None)
 
 
 def shown(code: str, text: str, severity: int, place: Range) -> Diagnostic:

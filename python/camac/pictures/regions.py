@@ -124,7 +124,6 @@ def measured(channels: Channels) -> List[Tuple[str, ...]]:
 
 
 def draw_regions(channels: Channels) -> Canvas:
-    """Draws the table of the regions."""
     canvas, rows = Canvas("Regions"), measured(channels)
     for x, title in COLUMNS:
         canvas.text(x, 12, title, "mute s11 r")

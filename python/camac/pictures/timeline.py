@@ -176,7 +176,6 @@ def _draw_strip(canvas: Canvas, y: float, kind: str, cycles: Dict[int, int], of:
 
 
 def _column_tip(run: Run, axis: Axis, at: int, column: Column, service: Service) -> str:
-    """The tip of a column."""
     first = at * axis.per + 1
     last = min(first + axis.per - 1, axis.total)
     lines = [f"service {first:,}" if axis.per == 1 else f"services {first:,} to {last:,}: {column.services:,} of {service.name}"]

@@ -14,7 +14,6 @@ from camac.subcommands import check, costs, plan as read_plan, response
 from camac.texts import hashed, plan_text, source_lines
 from camac.values import Body
 
-__all__ = ["Report", "report"]
 # The lines that are shown before and behind the place of a refusal.
 AROUND = 6
 

@@ -260,11 +260,6 @@ def panels(groups: Sequence[Group]) -> str:
     return "".join(f'<h4>{escape(it.title)}</h4><div class="panels">{"".join(one.figure() for one in it.panels)}</div>' for it in groups)
 
 
-def folded(title: str, inside: str) -> str:
-    """What a click opens. On paper it is open."""
-    return f"<details><summary>{escape(title)}</summary>{inside}</details>"
-
-
 def header(title: str, parts: Sequence[str] = ()) -> str:
     """The head of a page; its buttons change the theme, and the axis of counts."""
     return f'<header><button class="theme">dark / light</button><button class="scale">log / linear</button><h1>{escape(title)}</h1>{"".join(parts)}</header>'

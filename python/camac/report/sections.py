@@ -15,7 +15,7 @@ from camac.numbers import greatest, total
 from camac.pictures.strips import draw_strip
 from camac.pictures.svg import count, escape, share
 from camac.pictures.timeline import draw_run
-from camac.report.page import KEYS, Cell, Column, Row, figure, folded, header, panels, region_table, table
+from camac.report.page import KEYS, Cell, Column, Row, figure, header, panels, region_table, table
 from camac.runs import LONGEST, REASONS, UNFINISHED, Inputs, Run, Served
 from camac.texts import hashed, source_lines
 
@@ -48,10 +48,6 @@ class Facts:
 
     def service(self, gl: int) -> Optional[Service]:
         return next((it for it in self.services if it.gl == gl), None)
-
-    def name(self, gl: int) -> str:
-        service = self.service(gl)
-        return service.name if service else f"GL {gl}"
 
 
 def base_name(path: File) -> str:
@@ -177,7 +173,8 @@ def cost(facts: Facts) -> str:
     for body in facts.bodies:
         of_bit = seen.get(body.gl) if body.gl else None
         out.append(figure(draw_costs(body, facts.source, of_bit.cycles if of_bit else None, facts.bodies, has_calls=False)))
-        out += [folded(title, figure(lines)) for title, lines in draw_calls(body, facts.source, facts.bodies)]
+        drawn = draw_calls(body, facts.source, facts.bodies)
+        out += [f"<details><summary>{escape(title)}</summary>{figure(lines)}</details>" for title, lines in drawn]
     return "".join(out)
 
 
@@ -279,7 +276,7 @@ def services(facts: Facts) -> str:
     for k in chosen:
         service = facts.service(run.gl[k])
         part = Cell(round(run.cycles[k] / max(service.cycles, 1), 4), share(run.cycles[k], service.cycles)) if service else ""
-        row = (k + 1, facts.name(run.gl[k]), run.cycles[k], part, run.waits[k], run.locked[k])
+        row = (k + 1, service.name if service else f"GL {run.gl[k]}", run.cycles[k], part, run.waits[k], run.locked[k])
         rows.append((*row, run.no_q[k], run.of_transfers[k], run.no_x[k], run.words[k]))
     titles = "cycles,of bound,waits,in a lock,Q = 0,Q end,X = 0,words".split(",")
     columns = [Column("event"), Column("service", True), *map(Column, titles)]

@@ -11,8 +11,6 @@ from camac.surveys.asking import Asked, Reach, Script, ask, declared_plan, servi
 from camac.surveys.wiring import Wire
 from camac.values import Command, Crate, Declaration, Plan, Station, ranges
 
-__all__ = ["Found", "Row", "Survey", "survey"]
-
 # F8 and F27 change nothing, so they go to all sub-addresses; F0 and F1 to those that are declared.
 TESTS, READS = (8, 27), (0, 1)
 FUNCTIONS = READS + TESTS

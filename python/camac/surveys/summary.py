@@ -6,7 +6,6 @@ from typing import Any, Dict, List, NamedTuple
 
 from camac.drive import File
 from camac.output import holds_bytes
-from camac.surveys import Survey
 
 FORM = "camac survey 1"
 
@@ -35,10 +34,6 @@ class Summary(NamedTuple):
         count = len(self.differences)
         said = "nothing differs from the plan" if not count else f"{count} difference{'s' if count > 1 else ''} from the plan"
         return f"surveyed at {self.at} by {self.sent:,} commands: {said}" + ("" if self.plan == plan else "; it was another plan")
-
-
-def summary(survey: Survey, plan: str) -> Summary:
-    return Summary(survey.at, plan, survey.sent(), survey.differences(), survey.not_tried())
 
 
 def read_summary(file: File) -> Summary:
