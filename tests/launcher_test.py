@@ -21,7 +21,7 @@ import threading
 import time
 import unittest
 
-from support.launcher import Case, call, copy, start, toolchain
+from support.launcher import OF_LIBRARY, Case, call, copy, keep, start, toolchain
 from support.needs import has, needed, skip
 from support.program import PROGRAM, TOP, folder
 
@@ -342,14 +342,8 @@ class Install(Case):
     @classmethod
     def setUpClass(cls):
         """Puts the stand-in where the library of these sources is kept."""
-        if cls.lacking:
-            return
-        line = "top=$1; source $top/tools/program.bash; cd $top; texts_of crates/*/src tools/library_main.text; rt version | sha256sum"
-        texts, kit = call("bash", "-c", line.replace("$top", '"$top"'), "bash", COPY)[1].splitlines()
-        library = COPY / f"out/libcamac.{texts}.{kit[:16]}.a"
-        library.parent.mkdir(exist_ok=True)
-        shutil.copy(cls.archive(), library)
-        library.chmod(0o755)
+        if not cls.lacking:
+            keep(COPY, "libcamac.{}.a", cls.archive(), OF_LIBRARY)
 
     def said_of_library(self, how):
         return f"install: no library for C: {self.lacking[0]} is not here" if self.lacking else f"install: the library for C, {how}"
