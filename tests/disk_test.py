@@ -10,12 +10,12 @@ import errno
 import os
 import re
 import resource
+import shutil
 import signal
 import subprocess
 import sys
 import unittest
 
-from support.needs import skip
 from support.program import ANSWERS, EVENT_FILE, EVENT_FILE_ONE, FULL, LISTING, PROGRAM, REQUESTS, TOP, VERDICT, Case, unwritten
 
 HEADER, RECORD = 8, len(EVENT_FILE) - 8
@@ -83,73 +83,40 @@ class Grown(Case):
 
 
 class Full(Case):
-    """A disk of 64 KiB, which is seen by the program alone."""
-
-    MOUNT = "mkdir -p small && mount -t tmpfs -o size=64k none small"
-
-    def setUp(self):
-        super().setUp()
-        words = ["unshare", "--mount", "--map-root-user"] if os.getuid() else ["unshare", "--mount"]
-        self.apart = [*words, "bash", "-c"]
-        try:
-            tried = subprocess.run([*self.apart, self.MOUNT], capture_output=True, cwd=self.room, timeout=60)
-        except FileNotFoundError:
-            skip("util-linux")
-        if tried.returncode:
-            skip("a disk that can be mounted")  # tests/program_test.py tries /dev/full
-
-    def apart_shell(self, line):
-        """A line of bash in which `small` is the disk; then what is on it is copied."""
-        text = f"{self.MOUNT} && {{ {line}\n}}; status=$?; mkdir -p kept && cp small/* kept/ 2>/dev/null; exit $status"
-        ran = subprocess.run([*self.apart, text], capture_output=True, cwd=self.room, env={**os.environ, "camac": PROGRAM}, timeout=60)
-        return ran.returncode, ran.stdout, ran.stderr
+    """A disk of 64 KiB. tests/program_test.py tries /dev/full."""
 
     def test_one_number_on_two_disks(self):
         """EVENTS is no input where both have one number, each on a disk of its own."""
         line = "cp answers small/ && mkdir other && mount -t tmpfs none other && touch other/e && stat -c %i small/answers other/e"
-        status, out, err = self.apart_shell(f"{line} && $camac run plan.toml straight.script small/answers other/e")
+        status, out, err = self.on_small_disk(f"{line} && $camac run plan.toml straight.script small/answers other/e")
         first, second, listing = out.split(b"\n", 2)
         self.assertEqual((status, first, listing, err), (0, second, LISTING, b""))
 
-    def whole(self):
-        """The listing and the event file of 4,000 events, with room."""
+    def test_runs(self):
+        """The beginning of 4,000 events, of their listing, or of both, where one of them has no room. Not even the header has it on a full disk."""
         (self.room / "answers").write_bytes(b"1 1 000001 0 000004\n" * 8000)
-        status, listing, _ = self.call("run", "plan.toml", "straight.script", "answers", "whole.events")
-        self.assertEqual((status, len(self.file("whole.events"))), (0, HEADER + RECORD * 4000))
-        return listing, self.file("whole.events")
-
-    def test_events(self):
-        listing, events = self.whole()
-        status, out, told = self.apart_shell('"$camac" run plan.toml straight.script answers small/e')
-        self.assertEqual((status, told), (3, unwritten(errno.ENOSPC, "small/e")))
-        left = self.file("kept/e")
-        self.assertEqual(len(left), 65_536)
-        self.assertTrue(listing.startswith(out) and events.startswith(left))
-        self.assertFalse(listing == out)
-
-    def test_live_events(self):
-        _, events = self.whole()
-        status, out, told = self.apart_shell('"$camac" drive plan.toml straight.script small/e <answers')
-        self.assertEqual((status, told), (3, unwritten(errno.ENOSPC, "small/e")))
-        left = self.file("kept/e")
-        self.assertEqual(len(left), 65_536)
-        self.assertTrue(events.startswith(left))
-        # a demand is asked for only where the record before it is whole
-        self.assertEqual(out.count(b"demand\n"), (len(left) - HEADER) // RECORD + 1)
-
-    def test_listing(self):
-        listing, events = self.whole()
-        status, _, told = self.apart_shell('"$camac" run plan.toml straight.script answers e >small/out')
-        self.assertEqual((status, told), (3, FULL))
-        left = self.file("kept/out")
-        self.assertEqual(len(left), 65_536)
-        self.assertTrue(listing.startswith(left) and events.startswith(self.file("e")))
-
-    def test_no_room_at_all(self):
-        """Not even the header has room."""
-        status, _, told = self.apart_shell('head -c 65536 /dev/zero >small/full; "$camac" run plan.toml straight.script answers small/e')
-        self.assertEqual((status, told), (3, unwritten(errno.ENOSPC, "small/e")))
-        self.assertEqual(self.file("kept/e"), b"")
+        _, listing, _ = self.call("run", "plan.toml", "straight.script", "answers", "whole.events")
+        events = self.file("whole.events")
+        self.assertEqual(len(events), HEADER + RECORD * 4000)
+        no_room = unwritten(errno.ENOSPC, "small/e")
+        for line, told, name, whole, size in (
+            ("run plan.toml straight.script answers small/e", no_room, "kept/e", events, 65_536),
+            ("drive plan.toml straight.script small/e <answers", no_room, "kept/e", events, 65_536),
+            ("run plan.toml straight.script answers e >small/out", FULL, "kept/out", listing, 65_536),
+            ("run plan.toml straight.script answers small/e", no_room, "kept/e", events, 0),
+        ):
+            with self.subTest(line=line, size=size):
+                status, out, said = self.on_small_disk(f'{"" if size else "head -c 65536 /dev/zero >small/full; "}"$camac" {line}')
+                left = self.file(name)
+                self.assertEqual((status, said, len(left), whole.startswith(left)), (3, told, size, True))
+                if line.startswith("run"):
+                    self.assertTrue(listing.startswith(out) and listing != out)
+                else:
+                    # a demand is asked for only where the record before it is whole
+                    self.assertEqual(out.count(b"demand\n"), (len(left) - HEADER) // RECORD + 1)
+                for it in ("small", "kept"):
+                    shutil.rmtree(self.room / it)
+        self.assertTrue(events.startswith(self.file("e")))
 
 
 class RunningPage(Case):

@@ -251,12 +251,8 @@ class Editors(Case):
         self.assertEqual(self.said(text), STEPS, text)
 
     def test_kate(self):
-        """The words are those of the other editors, and the server is bound to the name of the language."""
+        """Each style is one of its own, and the server is bound to the name of the language."""
         syntax = ElementTree.parse(TOP / "editors/kate/camac.xml").getroot()
-        words = {it.text for it in syntax.iter("item")}
-        grammar = json.loads((TOP / "editors/vscode/syntaxes/camac.tmLanguage.json").read_text())
-        wanted = {word for it in grammar["patterns"] for found in re.findall(r"\(\?:([a-z|]+)\)", it["match"]) for word in found.split("|")}
-        self.assertEqual(words, wanted)
         styles = {it.get("name") for it in syntax.iter("itemData")}
         self.assertEqual({it.get("attribute") for it in syntax.iter() if it.get("attribute")}, styles)
         server = json.loads((TOP / "editors/kate/settings.json").read_text())["servers"]["camac"]

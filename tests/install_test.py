@@ -16,7 +16,7 @@ import time
 import unittest
 
 from support import launcher, of_c
-from support.launcher import call, copy, stand_in, start, toolchain
+from support.launcher import OF_LIBRARY, call, copy, keep, stand_in, start, toolchain
 from support.needs import has, needed
 from support.program import PROGRAM, TOP, folder
 
@@ -33,19 +33,9 @@ def setUpModule():
     global COPY
     COPY = folder(unittest.addModuleCleanup) / "a copy"
     copy(COPY)
-    keep("camac.{}", PROGRAM, "crates/*/src")
+    keep(COPY, "camac.{}", PROGRAM, "crates/*/src")
     if not of_c.lacking():
-        keep("libcamac.{}.a", of_c.ARCHIVE, "crates/*/src tools/library_main.text")
-
-
-def keep(name, file, texts):
-    """Puts a file where a build of these sources keeps what it makes of these texts."""
-    line = f'top=$1; source "$top/tools/program.bash"; cd "$top" && texts_of {texts} && echo "$(rt version | sha256sum)"'
-    texts, kit = call("bash", "-c", line, "bash", COPY)[1].splitlines()
-    place = COPY / "out" / name.format(f"{texts}.{kit[:16]}")
-    place.parent.mkdir(exist_ok=True)
-    shutil.copy(file, place)
-    place.chmod(0o755)
+        keep(COPY, "libcamac.{}.a", of_c.ARCHIVE, OF_LIBRARY)
 
 
 class Case(launcher.Case):

@@ -320,12 +320,6 @@ class Shown(laboratory.BenchCase):
         ElementTree.fromstring(canvas.picture())
         self.assertNotIn("<script", canvas.picture())
 
-    def another_program(self, *cases):
-        """The program, but for some of its commands."""
-        other = self.write("other", "".join(f"{it}\n" for it in ("#!/bin/sh", "case $1 in", *cases, f"*) exec '{PROGRAM}' \"$@\" ;;", "esac")))
-        other.chmod(0o755)
-        return mock.patch.dict(os.environ, {"CAMAC_PROGRAM": str(other)})
-
     def test_unkept(self):
         """Why there is no number is said in words; from a service's bit on there is none. The status is 1, but nothing is refused."""
         self.write("told", NONE_KEPT)

@@ -12,7 +12,6 @@ import pathlib
 import pty
 import re
 import resource
-import select
 import shutil
 import signal
 import statistics
@@ -22,7 +21,7 @@ import threading
 import time
 import unittest
 
-from support.launcher import Case, call, copy, start, toolchain
+from support.launcher import OF_LIBRARY, Case, call, copy, keep, start, toolchain
 from support.needs import has, needed, skip
 from support.program import PROGRAM, TOP, folder
 
@@ -163,7 +162,7 @@ class Launcher(Case):
         counts = [[speed.of_shape(texts, it, [""]) for it in programs] for texts in corpus.shapes().values()]
         self.assertLess(statistics.geometric_mean(built / proved for (proved,), (built,) in counts), MOST)
 
-    def test_4_links_folders_and_statuses(self):
+    def test_4_links_and_folders(self):
         folder = self.folder()
         (folder / "bin").mkdir()
         (folder / "bin/camac").symlink_to(os.path.relpath(self.launcher, folder / "bin"))
@@ -172,31 +171,11 @@ class Launcher(Case):
         self.assertEqual(call("bash", "-c", "camac check @sample 'a script'", cwd=folder, env=path), (0, VERDICT, ""))
         line = "camac check <(cat '{0}/examples/sample_plan.toml') <(cat 'a script')".format(COPY)
         self.assertEqual(call("bash", "-c", line, cwd=folder, env=path), (0, VERDICT, ""))
-        self.assertEqual(call("camac", "check", "@sample", "@in", given="!", cwd=folder, env=path), (1, "refused S1 line 1: bad byte\n", ""))
-        self.assertEqual(call("camac", "check", "@in", "@in", cwd=folder, env=path), (2, "", "fault @in twice\n"))
-        self.assertEqual(call("camac", "plan", "none", cwd=folder, env=path), (3, "", "fault read\n  none: No such file or directory\n"))
 
     def test_5_program_by_the_launcher(self):
-        """All that is tried of the program holds of the launcher: closed streams, pipes, full devices, statuses."""
+        """All that is tried of the program holds of the launcher: closed streams, pipes, answers that are waited for, full devices, statuses."""
         status, _, err = call(COPY / "tests/program_test.py", env={**os.environ, "CAMAC_PROGRAM": str(self.launcher)})
         self.assertEqual(status, 0, err)
-
-    def test_5_live_input(self):
-        folder = self.folder()
-        ran = start(self.launcher, "run", "@sample", COPY / "examples/straight_line.script", "@in", folder / "e")
-        read, clear = "cycle 1 5 0 0 in 123fff x1 q1 wait 2", "cycle 1 5 12 10 none x1 q1 wait 0"
-        for answer, line in (("0 0 000000 0 000004", "demand 000004 adc"), ("1 1 123fff 2 000000", read), ("1 1 000000 0 000000", clear)):
-            ran.stdin.write(f"{answer}\n")
-            ran.stdin.flush()
-            self.assertTrue(select.select([ran.stdout], [], [], 10)[0], "no line before the next answer")
-            self.assertEqual(os.read(ran.stdout.fileno(), 1000).decode(), f"{line}\n")
-        self.assertEqual((*ran.communicate(), ran.returncode), ("ended events 1\n", "", 0))
-
-    def test_5_a_million_answers(self):
-        folder = self.folder()
-        line = f"yes '0 0 000000 0 000000' | head -n 1000000 | '{self.launcher}' run @sample '{COPY}/examples/straight_line.script' @in e"
-        status, out, err = call("bash", "-c", line, cwd=folder)
-        self.assertEqual((status, out.count("\n"), out.splitlines()[-1], err), (0, 1_000_001, "ended events 0", ""))
 
     def test_6_texts_count_and_not_times(self):
         for file in (COPY / "crates").glob("*/src/*.rt"):
@@ -363,14 +342,8 @@ class Install(Case):
     @classmethod
     def setUpClass(cls):
         """Puts the stand-in where the library of these sources is kept."""
-        if cls.lacking:
-            return
-        line = "top=$1; source $top/tools/program.bash; cd $top; texts_of crates/*/src tools/library_main.text; rt version | sha256sum"
-        texts, kit = call("bash", "-c", line.replace("$top", '"$top"'), "bash", COPY)[1].splitlines()
-        library = COPY / f"out/libcamac.{texts}.{kit[:16]}.a"
-        library.parent.mkdir(exist_ok=True)
-        shutil.copy(cls.archive(), library)
-        library.chmod(0o755)
+        if not cls.lacking:
+            keep(COPY, "libcamac.{}.a", cls.archive(), OF_LIBRARY)
 
     def said_of_library(self, how):
         return f"install: no library for C: {self.lacking[0]} is not here" if self.lacking else f"install: the library for C, {how}"

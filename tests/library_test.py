@@ -835,23 +835,13 @@ class Python(Case):
         self.assertEqual(session.ahead(), [])
         with self.assertRaises(UsageFault):
             session.next_many([CYCLE])
-        with library.Session(self.sample(), CALLS) as session:
-            session.next(DEMAND)
-            self.assertEqual([(it.a, it.f) for it in session.ahead()], [(3, 0), (4, 0), (12, 10)])
-        with library.Session(self.sample(), ARMS) as session:
-            session.next(DEMAND)
-            self.assertEqual([(it.a, it.f) for it in session.ahead()], [(3, 0), (3, 0), (12, 10)])
-        with library.Session(self.sample(), PASSED) as session:
-            session.next(DEMAND)
-            self.assertEqual([(it.a, it.f) for it in session.ahead()], [(3, 0), (12, 10), (3, 0), (12, 10)])
         with library.Session(self.sample(), LOCKS) as session:
             session.next(DEMAND)
-            self.assertEqual([(it.kind, it.waits) for it in session.ahead()], [(library.CYCLE, 2), (library.LOCK, 2), *[(library.CYCLE, 0)] * 2])
             session.next(CYCLE)
             self.assertEqual([(it.kind, it.waits) for it in session.ahead()], [(library.LOCK, 2), *[(library.CYCLE, 0)] * 2])
 
     def test_what_a_service_begins_with(self):
-        """It is told before the demand: that is what the run wants after it, one by one."""
+        """It is told before the demand: that is what the run wants after it, one by one, and what is ahead then."""
         for script, told in (
             ((EXAMPLES / "all_channels.script").read_text(), [*((1, a, 0, 2) for a in range(12)), (1, 12, 10, 2)]),
             (CALLS, [(1, 3, 0, 2), (1, 4, 0, 2), (1, 12, 10, 2)]),
@@ -867,10 +857,12 @@ class Python(Case):
             with library.Session(self.sample(), script) as session:
                 self.assertEqual([(it.c, it.a, it.f, it.waits) for it in session.service_ahead(1)], told)
                 self.assertEqual(len(session.service_ahead(1, 2)), min(2, len(told)))
+                before = [bytes(it) for it in session.service_ahead(1)]
                 for service in (0, 2, -1, 1 << 32):
                     with self.assertRaises(UsageFault):
                         session.service_ahead(service)
                 session.next(DEMAND)
+                self.assertEqual([bytes(it) for it in session.ahead()][: len(told)], before)
                 with self.assertRaises(UsageFault) as found:
                     session.service_ahead(1)
         self.assertEqual(str(found.exception), "service_ahead needs an open session that wants a demand, and the number of a service, from 1")

@@ -10,6 +10,7 @@ import signal
 import subprocess
 
 from support.live import LOCKOUT, OPENING, PATIENCE, PROGRAM, STRAIGHT_LINE, TOP, Broken, Case, Listed, Pipes, run_tests, script
+from support.program import EVENT_FILE
 import camac
 from camac import Answer, Ending, RunEnd
 from camac.mock import Adc, Auxiliary, Faulty, MockBranch, Recorder, Register
@@ -18,8 +19,7 @@ LONG = OPENING.format(30_000, 0) + "for i = 1 to 9999 { cclc adc }\n}\n"
 DEMAND = "0 0 000000 0 000004"
 CYCLE = "1 1 123fff 2 000000"
 WAIT_0, WAIT_1, WAIT_2 = (f"0 0 000000 {wait} 000000" for wait in range(3))
-HEADER = b"CAMACEV2"
-EVENT_FILE = bytes.fromhex("43414d4143455632 ca4d 0003 00000001 00000003 0000 0001 00000fff")
+HEADER = EVENT_FILE[:8]
 HOLDS_BYTES = b"fault write\n  night: it holds bytes; a live run needs a file of its own\n"
 CLOSED = b"fault read\n  @in: it is closed, or a folder\n"
 
@@ -131,17 +131,12 @@ class Rows(Case):
         self.assertEqual(self.call(*words, "/dev/null", given=given)[0], 0)
 
     def test_words(self):
-        self.write("script", STRAIGHT_LINE)
-        for words in (["@in", "script", "e"], ["@sample", "@in", "e"]):
-            self.assertEqual(self.call("drive", *words), (2, b"", b"fault @in twice\n"))
         self.assertEqual(self.talk(STRAIGHT_LINE, [DEMAND, CYCLE], events="@in")[1], 0)
         self.assertEqual(self.file("@in"), EVENT_FILE)
 
     def test_faults(self):
         self.write("script", STRAIGHT_LINE)
         self.assertEqual(self.call("drive", "none.toml", "script", "e"), (3, b"", b"fault read\n  none.toml: No such file or directory\n"))
-        self.assertEqual(self.call("drive", "@sample", "script", "script"), (3, b"", b"fault write\n  script: it is an input\n"))
-        self.assertEqual(self.file("script"), STRAIGHT_LINE.encode())
         folder = os.open(self.room, os.O_RDONLY)
         self.addCleanup(os.close, folder)
         self.assertEqual(self.call("drive", "@sample", "script", "e", given=None, stdin=folder), (3, b"demand\n", CLOSED))
@@ -160,32 +155,6 @@ class Rows(Case):
                 done = subprocess.run(["bash", "-c", ending], timeout=PATIENCE, **how)
                 self.assertEqual((done.returncode, done.stdout, done.stderr), (3, output, errors))
                 self.expect_events("e", events)
-
-    def test_requests_that_nobody_reads(self):
-        self.write("script", STRAIGHT_LINE)
-        with Pipes(self.room, "@sample", "script", "e") as pipes:
-            self.assertEqual(pipes.requests(), b"demand\n")
-            pipes.process.stdout.close()
-            pipes.answer(DEMAND)
-            self.assertEqual((pipes.process.wait(PATIENCE), pipes.process.stderr.read()), (141, b""))
-        self.assertEqual(self.file("e"), HEADER)
-
-    def test_each_request_comes_alone(self):
-        """No request comes before the answer to the last one; half a line is no answer; the event is in the file before the next request."""
-        path = self.write("script", STRAIGHT_LINE)
-        with Pipes(self.room, "@sample", path, "e") as pipes:
-            self.assertEqual(pipes.requests(), b"demand\n")
-            self.assertTrue(pipes.is_quiet())
-            pipes.process.stdin.write(DEMAND.encode())
-            self.assertTrue(pipes.is_quiet())
-            pipes.process.stdin.write(b"\n")
-            self.assertEqual(pipes.requests(), b"cycle 1 5 0 0 in\n")
-            self.assertTrue(pipes.is_quiet())
-            self.assertEqual(self.file("e"), HEADER)
-            pipes.answer(CYCLE)
-            self.assertEqual(pipes.requests(), b"demand\n")
-            self.assertEqual(self.file("e"), EVENT_FILE)
-            self.assertEqual(pipes.end(), (b"ended events 1\n", 0, b""))
 
     def test_ten_thousand_operations(self):
         """A driver that gives each answer when its request has come: the program never waits for an answer before it has asked."""

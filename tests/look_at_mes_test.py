@@ -1,6 +1,7 @@
 #!/usr/bin/env python3
 """Tests of the law of look-at-mes: of scripts and modules that are made at random, none waits longer than `camac response` says, at any moment of a
-run, and some wait just as long. What half of the scripts leave up, clear or hide, `response` tells by lines `unkept`, and promises no number for it.
+run, and some wait just as long; and no stretch is longer. What half of the scripts leave up, clear or hide, `response` tells by lines `unkept`, and promises
+no number for it.
 
 usage: tests/look_at_mes_test.py [-v] [TEST ..]     from any folder; takes a minute of processor time
 
@@ -18,14 +19,13 @@ from camac.printed import read_responses
 from camac.values import Harm
 from oracle.calls import Program
 from oracle.comparing import used
-from oracle.maker.modules import ANSWERS
 from oracle.reader.answers import Answer, Answers
 from oracle.reader.engines import Inputs, checked
 from oracle.reader.meaning import Run
 from oracle.reader.response import response_of, services_of
 
 SEED = os.environ.get("CAMAC_SEED") or datetime.date.today().isoformat()
-RUNS, SECONDS = os.environ.get("CAMAC_RUNS"), 45
+RUNS, SECONDS, ANSWERS = os.environ.get("CAMAC_RUNS"), 45, 120
 # F9 clears the look-at-me, too.
 TYPE = """[[type]]
 name = "T"
@@ -128,6 +128,8 @@ class Modules(Answers):
         self.all = [Module(it.name, it.gl, made.places[it.name], it.every) for it in responses]
         self.before, self.after = collections.defaultdict(list), collections.defaultdict(list)
         self.now = self.rested = 0
+        # The operations, by the numbers of their answers, before which no look-at-me was up.
+        self.rests = set()
         self.has_idle, self.is_worst = dice.random() < 0.5, dice.random() < 0.7
         bit = dice.choice(self.all).bit
         self.lower = [it for it in self.all if it.bit <= bit]
@@ -198,6 +200,7 @@ class Modules(Answers):
         """A graded-L operation, after a rest if no look-at-me is up."""
         self.raise_due(self.before)
         if not self.up():
+            self.rests.add(len(self.lines))
             for it in self.all:
                 it.may = True
             if self.dice.random() < 0.5:
@@ -239,6 +242,8 @@ class Judge:
         self.most = most
         self.modules, self.faults, self.exact = modules, [], 0
         self.now, self.waiting, self.called, self.served = 0, {}, None, None
+        # The cycles since the last operation, and by service those of the stretch of its bit.
+        self.since, self.stretches = 0, {}
 
     def change(self, changes):
         for name, at in changes:
@@ -258,6 +263,21 @@ class Judge:
                 if self.now - at > self.most[name][0]:
                     self.faults.append(f"{name} waits {self.now - at} cycles")
 
+    def operate(self, called, is_after_a_rest):
+        """Begins and ends stretches. What was in progress counts, and after a rest nothing was."""
+        since, self.since = 0 if is_after_a_rest else self.since, 0
+        up_to = [name for name in self.most if called != "-" and int(called[1:]) <= int(name[1:])]
+        self.stretches = {name: since if is_after_a_rest else self.stretches.get(name, since) for name in up_to}
+
+    def spend(self, cycles):
+        self.now += cycles
+        self.since += cycles
+        for name in self.stretches:
+            self.stretches[name] += cycles
+            if self.stretches[name] > self.most[name][2]:
+                self.faults.append(f"the stretch of {name} takes {self.stretches[name]} cycles")
+        self.look()
+
     def end(self):
         if self.called and self.called[0] in self.most and self.now - self.called[1] > self.most[self.called[0]][1]:
             self.faults.append(f"{self.called[0]} ends {self.now - self.called[1]} cycles after its look-at-me")
@@ -272,12 +292,12 @@ class Judge:
                 continue
             if words[0] == "demand":
                 self.change(self.modules.before[number])
+                self.operate(words[2], number in self.modules.rests)
                 self.served = words[2]
                 if words[2] in self.waiting:
                     self.called = words[2], self.waiting.pop(words[2])
             else:
-                self.now += int(words[-1]) + (words[0] == "cycle")
-                self.look()
+                self.spend(int(words[-1]) + (words[0] == "cycle"))
             self.change(self.modules.after[number])
             number += 1
 
@@ -320,7 +340,7 @@ class Waits(Case):
         modules.run.play()
         listing = self.call("run", made.plan, made.script, answers="".join(f"{it}\n" for it in modules.lines))[1].splitlines()
         self.assertEqual(listing, modules.run.listing, number)
-        judge = Judge({it.name: (it.start, it.end) for it in responses if it.end is not None}, modules)
+        judge = Judge({it.name: (it.start, it.end, it.longest) for it in responses if it.end is not None}, modules)
         judge.read(listing)
         self.assertEqual(judge.faults, [], (number, made.plan, made.script, responses))
         seen["numbers"] += bool(judge.most)
@@ -330,7 +350,7 @@ class Waits(Case):
             # What would have been promised without these lines.
             services = services_of(checked(Inputs(made.plan.encode(), made.script.encode())), rates)
             found = {it.name: response_of(services, it) for it in services}
-            other = Judge({name: it[:2] for name, it in found.items() if it}, modules)
+            other = Judge({name: it[:3] for name, it in found.items() if it}, modules)
             other.read(listing)
             seen.update(f"broken by {it}" for it in made.wrongs if other.faults and len(made.wrongs) == 1)
 

@@ -13,26 +13,16 @@ import sys
 import tempfile
 import unittest
 
-from support.needs import skip
 from support.program import PROGRAM, TOP, Room
 from support.rows import NOT_MADE, ROWS
 from oracle.calls import Program
 from oracle.comparing import Comparison, keep, used
 from oracle.judges import JUDGES
 from oracle.reader.engines import TELL, Inputs, tell
-from oracle.reader.refusals import LeftOut
 
 SEED = os.environ.get("CAMAC_SEED") or datetime.date.today().isoformat()
 # By this seed every code is reached after 1,200 cases.
 OF_CODES, CASES_OF_CODES = "camac", 1_500
-
-
-def read(command, inputs):
-    """What the reader answers."""
-    try:
-        return tell(command, inputs)
-    except LeftOut:
-        skip("Python 3.11")
 
 
 class Reader(unittest.TestCase):
@@ -48,7 +38,7 @@ class Reader(unittest.TestCase):
     def expect(self, case):
         given = case.inputs
         command, *words = case.command.split()
-        told = read(command, Inputs(given.get("PLAN"), given.get("SCRIPT", b""), given.get("ANSWERS", b""), words=" ".join(words).encode()))
+        told = tell(command, Inputs(given.get("PLAN"), given.get("SCRIPT", b""), given.get("ANSWERS", b""), words=" ".join(words).encode()))
         self.assertEqual((told.status, told.out), (case.status, case.printed))
         self.assertEqual(told.err[:7], b"column " if told.reached in ("A1", "A2") and case.command == "run" else b"")
         if case.events is not None:
@@ -59,7 +49,7 @@ class Examples(Room):
     """The plans of the examples, and a run over the largest, which the program tells as the reader."""
 
     def expect(self, command, inputs):
-        wanted = read(command, inputs)._replace(reached="")
+        wanted = tell(command, inputs)._replace(reached="")
         self.assertEqual(Program(PROGRAM, self.room).call(command, inputs), wanted)
         return wanted
 

@@ -17,7 +17,7 @@ from typing import NamedTuple, Tuple
 
 from support.live import PROGRAM, TOP, Case, run_tests
 from support.needs import needed, skip
-from support.program import ANSWERS, EVENT_FILE, EVENT_FILE_ONE, LISTING, STRAIGHT_LINE, unwritten
+from support.program import ANSWERS, STRAIGHT_LINE
 
 NIGHT_BEFORE = "$ of the night before\n"
 HEAD = "number,operation,service,pattern,crate,station,sub_address,function,move,word,x,q,wait\n"
@@ -105,7 +105,7 @@ COMMANDS = {
     "python3 -m camac export -o": Command(("export", "run.events", "-o", "OUT.csv"), "OUT.events.csv"),
     "camac.drive(.., record=..)": Command(("OUT",), program=RECORDED),
 }
-# Commands of the program, which have a test of their own; and what writes as it goes, into what is there.
+# Commands of the program, which tests/program_test.py and tests/live_test.py try; and what writes as it goes, into what is there.
 OF_PROGRAM, AS_IT_GOES = {"camac run", "camac drive"}, {"python3 -m camac simulate --events"}
 SCRIPT, NOTHING, CHANGED = "the script that it read", "nothing that holds bytes", "the script changed while it was judged"
 # By what a command may replace, as the page has it, why it leaves another file.
@@ -130,17 +130,6 @@ class Called(Case):
         """Status, standard output and standard error."""
         ran = subprocess.run(words, cwd=self.room, env={**self.env, **more}, capture_output=True, text=True, timeout=60)
         return ran.returncode, ran.stdout, ran.stderr
-
-    def on_small_disk(self, line):
-        """The same of a line of bash in which `small` is a disk of 64 KiB."""
-        apart = ["unshare", "--mount"] + ([] if not os.getuid() else ["--map-root-user"])
-        try:
-            ran = self.ran([*apart, "bash", "-c", f"mkdir small && mount -t tmpfs -o size=64k none small || exit 77\n{line}"])
-        except FileNotFoundError:
-            skip("util-linux")
-        if ran[0] == 77 or ran[2].startswith("unshare: "):
-            skip("a disk that can be mounted")
-        return ran
 
     def text(self, name):
         return (self.room / name).read_text(errors="surrogateescape")
@@ -194,6 +183,7 @@ class Written(Called):
     def test_the_page_has_them_all(self):
         self.assertEqual({*table()}, {*COMMANDS, *OF_PROGRAM})
         self.assertEqual({name for name, it in table().items() if it == SCRIPT}, {name for name, it in COMMANDS.items() if it.old})
+        self.assertEqual([table()[it] for it in sorted(OF_PROGRAM)], [NOTHING, "an event file"])
 
     def test_links(self):
         """What a link leads to is written, and the link stays. A file of two names keeps both, and its mode."""
@@ -295,27 +285,12 @@ class Written(Called):
             file = command.file.replace("OUT", "small/out")
             line += f"printf %s {shlex.quote(old)} >{file}; head -c 65536 /dev/zero >small/rest 2>&-\n"
             line += f"{shlex.join(self.words(command, 'small/out'))} >said{number} 2>&1; echo $? >>said{number}; cat {file} >left{number}; rm small/rest; ls small >names{number}; rm small/*\n"
-        self.on_small_disk(line)
+        self.on_small_disk(line, **self.env)
         for number, (command, old) in enumerate(rows):
             file, said = command.file.replace("OUT", "out"), self.text(f"said{number}")
             with self.subTest(command.words):
                 self.assertEqual((said[-2:], "No space left on device" in said, f"small/{file}" in said), ("3\n", True, True), said)
                 self.assertEqual((self.text(f"left{number}"), self.text(f"names{number}")), (old, f"{file}\n"))
-
-    def test_event_files(self):
-        """`run` replaces an event file alone, and `drive` nothing that holds bytes."""
-        self.assertEqual([table()[it] for it in sorted(OF_PROGRAM)], [NOTHING, "an event file"])
-        run, drive = ([PROGRAM, *it.split(), "out"] for it in ("run @sample script answers", "drive @sample script"))
-        foreign = unwritten("it is no event file", "out").decode()
-        own = unwritten("it holds bytes; a live run needs a file of its own", "out").decode()
-        file = self.room / "out"
-        for old in (b"", EVENT_FILE, EVENT_FILE_ONE, EVENT_FILE[:8]):
-            file.write_bytes(old)
-            self.assertEqual((self.ran(run), file.read_bytes()), ((0, LISTING.decode(), ""), EVENT_FILE))
-        for words, old, told in [*((run, it, foreign) for it in (ANSWERS, b"C", b"CAMACEV", b"CAMACEV3")), *((drive, it, own) for it in (ANSWERS, EVENT_FILE))]:
-            with self.subTest(words=words, old=old):
-                file.write_bytes(old)
-                self.assertEqual((self.ran(words), file.read_bytes()), ((3, "", told), old))
 
 
 class Outputs(Called):
@@ -440,8 +415,8 @@ class Outputs(Called):
         """The file of two names stays whole, where the new one has room beside it and not in its place."""
         self.write("run.listing", listing(3000)[0])
         line = f"printf '{NIGHT_BEFORE}' >small/out; ln small/out small/other; csv listing run.listing -o small/out; status=$?; cat small/*; exit $status"
-        ran = self.on_small_disk(f"{self.CSV}{line}")
-        self.assertEqual(ran, (3, NIGHT_BEFORE * 2, "camac: No space left on device: small/out\n"))
+        ran = self.on_small_disk(f"{self.CSV}({line})", **self.env)
+        self.assertEqual(ran, (3, NIGHT_BEFORE.encode() * 2, b"camac: No space left on device: small/out\n"))
 
     def test_a_reader_that_is_gone(self):
         """The command ends without a word, by the signal by which `cat` ends."""

@@ -492,8 +492,9 @@ def kept_pictures():
         "costs-adc": pictures.draw_costs(bodies[1], source, seen[3].cycles),
         "costs-tick": pictures.draw_costs(bodies[2], source, seen[5].cycles, bodies),
         "costs-call": pictures.draw_costs(calls[1], COSTS.inputs["SCRIPT"].decode().split("\n"), None, calls),
-        "run": pictures.draw_run(run, services),
-        "run-long": pictures.draw_run(two_crates.long_run(270), services),
+        "run": pictures.draw_run(two_crates.long_run(80), services),
+        # Columns of two services each, of which few are drawn.
+        "run-long": pictures.draw_run(two_crates.long_run(270, is_tick=lambda at: at % 20 > 3), services[:1]),
         "events": pictures.draw_groups("Cycles and words of an event", pictures.event_groups(run, services)),
         "words": pictures.draw_groups("Words by channel", pictures.command_groups(run, plan)),
         "words-log": pictures.draw_groups("Words by channel", pictures.command_groups(run, plan, LOGARITHMIC)[:1]),

@@ -108,10 +108,11 @@ class WorkedRow(Case):
         self.assertEqual(self.call("run", "@sample", "straight.script", "@in", "e", given=given), (1, listed, b""))
 
     def test_answers_run_out(self):
-        self.assertEqual(self.call("run", "@sample", "straight.script", "@in", "e"), (0, b"ended events 0\n", b""))
-        listed = b"demand 000004 adc\nshort events 0\n"
-        self.assertEqual(self.call("run", "@sample", "straight.script", "@in", "e", given=DEMAND), (0, listed, b""))
-        self.assertEqual(self.file("e"), b"CAMACEV2")
+        """Their end begins an event file, too."""
+        for given, listed in ((b"", b"ended events 0\n"), (DEMAND, b"demand 000004 adc\nshort events 0\n")):
+            self.assertEqual(self.call("run", "@sample", "straight.script", "@in", "e", given=given), (0, listed, b""))
+            self.assertEqual(self.file("e"), b"CAMACEV2")
+            (self.room / "e").unlink()
 
 
 class Usage(Case):
@@ -241,7 +242,7 @@ class Files(Case):
     """Missing files, folders in their place, inputs that are too long."""
 
     def test_inputs_that_lack(self):
-        for words in (["plan", "none"], ["check", "none", "straight.script"], ["check", "@sample", "none"], ["events", "none"]):
+        for words in (["plan", "none"], ["check", "none", "straight.script"], ["check", "@sample", "none"], ["costs", "@sample", "none"], ["events", "none"]):
             self.assertEqual(self.call(*words), (3, b"", lacks("none")), words)
         for words in (["none", "straight.script", "answers"], ["@sample", "none", "answers"], ["@sample", "straight.script", "none"]):
             self.assertEqual(self.call("run", *words, "e"), (3, b"", lacks("none")), words)
@@ -255,7 +256,7 @@ class Files(Case):
 
     def test_folders_as_inputs(self):
         told = fault("read", ".", errno.EISDIR)
-        for words in (["plan", "."], ["check", "@sample", "."], ["events", "."], ["run", "@sample", "straight.script", ".", "e"]):
+        for words in (["plan", "."], ["check", "@sample", "."], ["costs", "@sample", "."], ["events", "."], ["run", "@sample", "straight.script", ".", "e"]):
             self.assertEqual(self.call(*words), (3, b"", told), words)
         self.assertFalse((self.room / "e").exists())
 
@@ -274,16 +275,6 @@ class Files(Case):
             self.assertEqual(self.call("run", *unread[0], "e"), (3, b"", unread[1]))
             self.assertEqual(self.file("e") if (self.room / "e").exists() else None, there)
             (self.room / "e").write_bytes(EVENT_FILE)
-
-    def test_an_older_event_file(self):
-        (self.room / "e").write_bytes(EVENT_FILE)
-        self.call("run", "@sample", "@in", "answers", "e", given=b"!")
-        self.assertEqual(self.file("e"), EVENT_FILE)
-
-    def test_events_where_no_answer_is_given(self):
-        """The end of the answers begins an event file, too."""
-        self.assertEqual(self.call("run", "@sample", "straight.script", "/dev/null", "e"), (0, b"ended events 0\n", b""))
-        self.assertEqual(self.file("e"), b"CAMACEV2")
 
     def test_inputs_that_are_too_long(self):
         text = b" " * 1_048_577
@@ -370,24 +361,9 @@ class Streams(Case):
         self.assertEqual(self.file("status"), b"141\n")
         line = 'mkfifo p; head -c 8 p >header & yes "1 1 000001 0 000004" | head -n 100000 | "$camac" run @sample straight.script @in p >listing'
         self.assertEqual(self.shell(line), (141, b"", b""))
-        for words in ("plan @sample", "check @sample straight.script", "response @sample straight.script"):
+        for words in ("plan @sample", "check @sample straight.script", "costs @sample straight.script", "response @sample straight.script"):
             self.assertEqual(self.shell(f'{{ sleep 0.1; "$camac" {words}; echo $? >status; }} | true'), (0, b"", b""), words)
             self.assertEqual(self.file("status"), b"141\n", words)
-
-    def test_lines_come_before_the_next_answer(self):
-        words = [PROGRAM, "run", "@sample", "straight.script", "@in", "e"]
-        with subprocess.Popen(words, stdin=subprocess.PIPE, stdout=subprocess.PIPE, cwd=self.room) as ran:
-            for answer, line in zip(ANSWERS.splitlines(True), LISTING.splitlines(True)):
-                ran.stdin.write(answer)
-                ran.stdin.flush()
-                self.assertEqual(ran.stdout.readline(), line)
-            limit = time.monotonic() + 10
-            while self.file("e") != EVENT_FILE and time.monotonic() < limit:
-                time.sleep(0.01)
-            self.assertEqual(self.file("e"), EVENT_FILE)
-            ran.stdin.close()
-            self.assertEqual(ran.stdout.read(), b"ended events 1\n")
-        self.assertEqual(ran.returncode, 0)
 
     def until(self, name, wanted):
         """Waits for a file to hold this."""

@@ -10,7 +10,7 @@ import subprocess
 import unittest
 
 from support.needs import needed
-from support.program import PROGRAM, STRAIGHT_LINE, TOP, folder
+from support.program import ANSWERS, EVENT_FILE, EVENT_FILE_ONE, PROGRAM, STRAIGHT_LINE, TOP, folder
 
 SHIM = r"""
 #define _GNU_SOURCE
@@ -116,11 +116,6 @@ service adc within 99 cycles event 9 words {
 """
 SAMPLE_PLAN = (TOP / "examples/sample_plan.toml").read_bytes()
 
-# The event files of one event, of both versions.
-EVENTS_ONE = bytes.fromhex("43414d4143455631 ca4d 0003 00000001 0001 00000fff")
-EVENTS_TWO = bytes.fromhex("43414d4143455632 ca4d 0003 00000001 00000003 0000 0001 00000fff")
-
-ANSWERS = b"0 0 000000 0 000004\n1 1 123fff 2 000000\n"
 MANY = b"1 1 000001 0 000004\n" * 40
 
 MEMORY = (3, b"", b"fault memory\n")
@@ -202,7 +197,7 @@ class RefusedMemory(unittest.TestCase):
         self.refuse_each("drive @sample script run.events", ANSWERS, REFUSED)
 
     def test_events(self):
-        for file in (EVENTS_ONE, EVENTS_TWO, EVENTS_TWO[:-1]):
+        for file in (EVENT_FILE_ONE, EVENT_FILE, EVENT_FILE[:-1]):
             self.refuse_each("events @in", file)
 
 

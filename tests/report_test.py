@@ -254,18 +254,8 @@ class Commands(laboratory.BenchCase):
     def test_an_older_program(self):
         """Of a program without `costs` and `tell` a page is made, and says what it lacks."""
         plan, script, answers = self.files
-        lines = [
-            "#!/bin/sh",
-            "case $1 in",
-            f"--help) '{laboratory.PROGRAM}' --help | grep -v -e '^  costs ' -e '^  tell ' ;;",
-            "costs | tell) exit 2 ;;",
-            f"*) exec '{laboratory.PROGRAM}' \"$@\" ;;",
-            "esac",
-        ]
-        older = self.write("older", "".join(f"{it}\n" for it in lines))
-        older.chmod(0o755)
         out = self.room / "out"
-        with mock.patch.dict(os.environ, {"CAMAC_PROGRAM": str(older)}):
+        with self.another_program(f"--help) '{laboratory.PROGRAM}' --help | grep -v -e '^  costs ' -e '^  tell ' ;;", "costs | tell) exit 2 ;;"):
             self.assertEqual(self.call("draw", "costs", plan, script, "-o", out, status=3)[1], "camac: this program has no `costs`\n")
             self.call("report", plan, script, answers, "-o", out)
             self.assertIn("not looked for", self.call("check", plan, script)[1])

@@ -8,11 +8,8 @@ import struct
 import unittest
 
 from support import plans
-from support.program import Room
-from support.rows import FILE_ONE, FILE_TWO, NOT_MADE, NO_EVENTS, ROWS, SAMPLE, STRAIGHT_LINE, Wrong, event_file, read_rows
-
-ONE_SERVICE = re.compile(r"accepted\nservice (\w+ gl \d+) cycles (\d+) of \d+ words (\d+) of \d+ steps (\d+)\n")
-HEADING = re.compile(r"(service \w+ )within \d+ cycles event \d+ words")
+from support.program import EVENT_FILE, EVENT_FILE_ONE, Room
+from support.rows import NOT_MADE, NO_EVENTS, ROWS, SAMPLE, STRAIGHT_LINE, Wrong, event_file, read_rows
 
 
 class Playing(Room):
@@ -61,30 +58,6 @@ class Rows(Playing):
                         self.assertEqual(status, case.status)
                         if case.events not in (None, events):
                             self.fail(f"another event file: {self.call('events', 'events')[1].decode() if events != NOT_MADE else events}")
-
-    def expect_with(self, cycles, words, case, status, printed):
-        """What `check` writes of the script of a case with these numbers in its heading."""
-        heading = rf"\g<1>within {cycles} cycles event {words} words"
-        script = HEADING.sub(heading, case.inputs["SCRIPT"].decode())
-        with self.subTest(script=script):
-            self.expect("check", status, printed.encode(), **{**case.inputs, "SCRIPT": script.encode()})
-
-    def test_one_below_the_bound(self):
-        """Each accepted script of one service is accepted with the cycles and words that it needs, and refused with one less."""
-        tried = 0
-        for case in [it for rows in ROWS.values() for cases in rows.values() for it in cases if it.command == "check"]:
-            found = ONE_SERVICE.fullmatch(case.printed.decode())
-            if found:
-                tried += 1
-                name, cycles, words, steps = found[1], int(found[2]), int(found[3]), found[4]
-                line = case.inputs["SCRIPT"].partition(b"service ")[0].count(b"\n") + 1
-                bounds = f"service {name} cycles {cycles} of {cycles} words {words} of {words} steps {steps}\n"
-                self.expect_with(cycles, words, case, 0, f"accepted\n{bounds}")
-                if cycles:
-                    self.expect_with(cycles - 1, words, case, 1, f"refused E12 line {line}: more cycles than annotated\n")
-                if words:
-                    self.expect_with(cycles, words - 1, case, 1, f"refused E11 line {line}: more event words than annotated\n")
-        self.assertGreater(tried, 40)
 
     def test_form(self):
         """What is no row is not passed over."""
@@ -290,30 +263,26 @@ class EventFiles(Playing):
                 self.expect_refused(file[:size], f"V7 byte {first}: truncated")
 
     def test_event_file_one(self):
-        self.expect_listing(FILE_ONE, b"event 1 gl 3 words 1 000fff\nevents 1\n")
-        self.expect_truncated(FILE_ONE, [8, 10, 12, 16, 18])
+        self.expect_truncated(EVENT_FILE_ONE, [8, 10, 12, 16, 18])
         self.expect_listing(b"CAMACEV1", b"events 0\n")
         self.expect_refused(b"CAMACEV", "V1 byte 0: header")
-        self.expect_changed(FILE_ONE, 18, 1, "V6 byte 18: word")
-        self.expect_refused(FILE_ONE + FILE_ONE[8:], "V4 byte 26: event number")
+        self.expect_changed(EVENT_FILE_ONE, 18, 1, "V6 byte 18: word")
+        self.expect_refused(EVENT_FILE_ONE + EVENT_FILE_ONE[8:], "V4 byte 26: event number")
 
     def test_event_file_two(self):
-        self.expect_listing(FILE_TWO, b"event 1 gl 3 cycles 3 missed 0 words 1 000fff\nevents 1\n")
-
-    def test_event_file_two_faults(self):
-        self.expect_truncated(FILE_TWO, [8, 10, 12, 16, 20, 22, 24])
+        self.expect_truncated(EVENT_FILE, [8, 10, 12, 16, 20, 22, 24])
         self.expect_listing(b"CAMACEV2", b"events 0\n")
         self.expect_refused(b"CAMACEV", "V1 byte 0: header")
-        self.expect_changed(FILE_TWO, 21, 4, "V9 byte 20: X count")
-        self.expect_changed(FILE_TWO, 24, 1, "V6 byte 24: word")
-        self.expect_refused(FILE_TWO + FILE_TWO[8:], "V4 byte 32: event number")
+        self.expect_changed(EVENT_FILE, 21, 4, "V9 byte 20: X count")
+        self.expect_changed(EVENT_FILE, 24, 1, "V6 byte 24: word")
+        self.expect_refused(EVENT_FILE + EVENT_FILE[8:], "V4 byte 32: event number")
 
     def test_event_field_faults(self):
-        self.expect_changed(FILE_ONE, 9, 0x4E, "V2 byte 8: marker")
-        self.expect_changed(FILE_ONE, 11, 0, "V3 byte 10: GL number")
-        self.expect_changed(FILE_ONE, 11, 25, "V3 byte 10: GL number")
-        self.expect_changed(FILE_ONE, 15, 2, "V4 byte 12: event number")
-        self.expect_changed(FILE_ONE, 16, 0x10, "V5 byte 16: count")
+        self.expect_changed(EVENT_FILE_ONE, 9, 0x4E, "V2 byte 8: marker")
+        self.expect_changed(EVENT_FILE_ONE, 11, 0, "V3 byte 10: GL number")
+        self.expect_changed(EVENT_FILE_ONE, 11, 25, "V3 byte 10: GL number")
+        self.expect_changed(EVENT_FILE_ONE, 15, 2, "V4 byte 12: event number")
+        self.expect_changed(EVENT_FILE_ONE, 16, 0x10, "V5 byte 16: count")
 
     def test_events_of_no_word_and_of_many(self):
         first = bytes.fromhex("ca4d 0018 00000001 ffffffff ffff 0000")

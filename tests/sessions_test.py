@@ -1,7 +1,7 @@
 #!/usr/bin/env python3
-"""Sessions of the library for C through the Python module. Services that are left before their end: no event, the crates as they were at the demand, the
-locks in the order in which to release them, and a run that goes on. And runs that make no more than so many steps at once: one that pauses tells what
-`camac run` tells, and is left as another.
+"""Sessions of the library for C through the Python module. Services that are left before their end: the locks in the order in which to release them, and
+what sets the crates back. And runs that make no more than so many steps at once: one that pauses tells what `camac run` tells, and is left as another.
+tests/library/consumer.c tries both on random scripts beside `camac run`.
 
 usage: tests/sessions_test.py [-v] [TEST ..]     from any folder; takes some seconds
 
@@ -10,7 +10,6 @@ makes it), or what the environment variable CAMAC_PROGRAM names.
 """
 import os
 import signal
-import sys
 import time
 
 from support import of_c
@@ -64,52 +63,12 @@ class Abandoned(Case):
         self.addCleanup(session.close)
         return session
 
-    def test_crates_are_as_at_the_demand(self):
-        session, answers = self.session(SAMPLE, CHANGES), [DEMAND, *[CYCLE] * 3]
-        for count in range(1, 5):
-            for it in answers[:count]:
-                session.next(it)
-            self.assertEqual((session.abandon(), session.where(), session.wants().kind), ((), None, library.DEMAND))
-        told = [(did.service, did.event) for did in map(session.next, (*answers, CYCLE))]
-        self.assertEqual((told, session.words()), ([(1, 0), *[(0, 0)] * 3, (0, 1)], (0,)))
-        # the service that ended has disabled the demand output
-        self.assertEqual(session.next(DEMAND).service, 0)
-
-    def test_no_event_and_the_next_number(self):
-        session = self.session(SAMPLE, STRAIGHT_LINE)
-        for number in (1, 2):
-            session.next(DEMAND)
-            self.assertEqual((session.abandon(), session.words(), session.record()), ((), (), b""))
-            session.next(DEMAND)
-            self.assertEqual((session.next(CYCLE).event, session.words()), (number, (0x123,)))
-        self.assertEqual(session.answers_left(), 4_294_967_295 - 6)
-
     def test_locks_in_the_order_of_their_release(self):
         session = self.session(TWO_CRATES, NESTED)
         for count, wanted in ((1, ()), (2, (1,)), (3, (2, 1)), (4, (2, 1))):
             for it in (DEMAND, LOCK, LOCK, CYCLE)[:count]:
                 session.next(it)
             self.assertEqual((session.held(), session.abandon(), session.held()), (wanted, wanted, ()))
-
-    def test_between_services_nothing_changes(self):
-        session = self.session(SAMPLE, STRAIGHT_LINE)
-        self.assertEqual(session.abandon(), ())
-        session.next(DEMAND)
-        session.next(CYCLE)
-        told = session.words(), session.item(), session.record(), session.answers_left()
-        self.assertEqual(session.abandon(), ())
-        self.assertEqual((session.words(), session.item(), session.record(), session.answers_left()), told)
-
-    def test_after_an_overrun(self):
-        """The event is lost, and the next has its number. The answer with that wait is not counted."""
-        session, whole = self.session(TWO_CRATES, NESTED), (DEMAND, LOCK, LOCK, CYCLE, CYCLE)
-        for count, held in ((1, ()), (2, (1,)), (4, (2, 1))):
-            for it in whole[:count]:
-                session.next(it)
-            self.assertEqual((session.next(Answer(wait=3)).kind, session.wants(), session.answers_left()), (library.STOPPED, None, 0))
-            self.assertEqual((session.abandon(), session.held(), session.where(), session.wants().kind), (held, (), None, library.DEMAND))
-        self.assertEqual([session.next(it).event for it in whole], [0, 0, 0, 0, 1])
-        self.assertEqual(session.answers_left(), 4_294_967_295 - 12)
 
     def test_the_longest_wait(self):
         """That of the plan, in a lockout none. A wait is as long as that may be, and no longer. That of a demand does not count."""
@@ -188,17 +147,6 @@ class Limited(Case):
             self.assertLessEqual(pauses, 2 * steps // (most + 1))
             self.assertEqual(pauses > 0, most < steps)
 
-    def test_after_each_step(self):
-        straight = "cdlam adc 1 1 5 12\nvar v\nservice adc within 3 cycles event 1 words {\n  v = 1\n  v = 2\n  v = 3\n  put v\n}\n"
-        session = self.session(0, straight)
-        told = session.next(DEMAND)
-        self.assertEqual((told.kind, told.service, told.event), (library.DEMAND, 1, 0))
-        for event in (0, 0, 0, 1):
-            self.assertTrue(session.is_busy())
-            step = session.go_on()
-            self.assertEqual((step.kind, step.event), (0, event))
-        self.assertEqual((session.is_busy(), session.words(), session.wants().kind), (False, (3,), library.DEMAND))
-
     def told(self, session):
         return session.item(), session.record(), session.words(), session.held(), session.answers_left(), session.where()
 
@@ -212,13 +160,6 @@ class Limited(Case):
             self.assertEqual(str(found.exception), f"{name} needs a run that does not pause: go_on comes first")
         self.assertEqual(self.told(session), told)
         self.assertEqual((told[4], told[5]), (4_294_967_295 - 1, None))
-
-    def test_going_on_without_a_pause_changes_nothing(self):
-        session = self.session(1000)
-        session.next(Answer())
-        told = self.told(session)
-        step = session.go_on()
-        self.assertEqual((step.kind, step.unlocked, step.event, self.told(session)), (0, (), 0, told))
 
     def test_a_service_that_pauses_may_be_left(self):
         session = self.session(library.NO_LIMIT)

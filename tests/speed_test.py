@@ -1,11 +1,13 @@
 #!/usr/bin/env python3
-"""Commands in Python load little, and an answer through the library for C takes little. The corpus is judged as its shapes say.
+"""Commands in Python load little, and an answer through the library for C takes little. `costs` takes at most ten times as long as `check`. The corpus is
+judged as its shapes say.
 
 usage: tests/speed_test.py [-v] [TEST ..]     from any folder; takes half a minute on four processors that are idle
 """
 import compileall
 import concurrent.futures
 import os
+import resource
 import shutil
 import socket
 import sys
@@ -58,6 +60,57 @@ class Library(Room):
         for calls, most in {"step": 650, "record": 650, "lists": 1_300}.items():
             with self.subTest(calls):
                 self.assertLess(sum(library.instructions(program, f"{TOP}/examples/straight_line.script", calls, str(self.room))), most)
+
+
+def many_services():
+    """The plan of a crate with 24 bits in two crates, and a script with a service on each, of 4,096 statements in all."""
+    stations = [(crate, n) for crate in (1, 2) for n in range(1, 13)]
+    module = '[[type]]\nname = "A"\ncommands = [ { f = 0, a = 0, width = 24 }, { f = 10, a = 0 } ]\n'
+    plan = module + "".join(
+        f"[[crate]]\nnumber = {crate}\nwaits = 15\n" + "".join(f'[[crate.station]]\nn = {n}\ntype = "A"\ngl = {12 * crate - 12 + n}\n' for n in range(1, 13))
+        for crate in (1, 2)
+    )
+    lams = "".join(f"cdlam l{crate}_{n} 1 {crate} {n} 0\n" for crate, n in stations)
+    each = 4096 // len(stations)
+    services = "".join(
+        f"service l{crate}_{n} within 4294967295 cycles event 4096 words {{\ncdreg r 1 {crate} {n} 0\n{f'cfsa 0 r -> v{chr(10)}' * (each - 1)}}}\n"
+        for crate, n in stations
+    )
+    return plan, f"{lams}var v\n{services}"
+
+
+def largest():
+    """The largest scripts within the limits, each with its plan."""
+    lam, long = "cdlam adc 1 1 5 12\n", f"v = {'+'.join(['v'] * 33)}\n"
+    heading = "service adc within 4294967295 cycles event 4096 words {\n"
+    loops = "".join(f"for v{depth} = 1 to 2 {{ " for depth in range(13))
+    names = " ".join(f"v{it}" for it in range(13))
+    choices = "if q {} else { " * 13
+    return {
+        "4,096 long statements": ("@sample", f"{lam}var v\n{heading}{long * 4096}}}\n"),
+        "13 loops in one another": ("@sample", f"{lam}var v {names}\n{heading}{loops}\n{f'v = v0{chr(10)}' * 4083}{'}' * 13} }}\n"),
+        "13 choices in one another": ("@sample", f"{lam}var v\n{heading}{choices}\n{long * 4083}{'}' * 13} }}\n"),
+        "24 services": many_services(),
+    }
+
+
+class Costs(Room):
+    def seconds(self, command, plan):
+        """The least processor time of five calls."""
+        times = []
+        for _ in range(5):
+            before = resource.getrusage(resource.RUSAGE_CHILDREN)
+            self.assertEqual(self.call(command, plan, "script")[0], 0)
+            after = resource.getrusage(resource.RUSAGE_CHILDREN)
+            times.append(after.ru_utime + after.ru_stime - before.ru_utime - before.ru_stime)
+        return min(times)
+
+    def test_ten_times_that_of_check(self):
+        for name, (plan, script) in largest().items():
+            self.write("script", script)
+            check, costs = (self.seconds(it, plan if plan == "@sample" else self.write("plan", plan)) for it in ("check", "costs"))
+            print(f"{name}: check {1000 * check:.1f} ms, costs {1000 * costs:.1f} ms")
+            self.assertLessEqual(costs, 10 * check, name)
 
 
 class Corpus(Room):

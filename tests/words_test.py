@@ -15,11 +15,12 @@ import random
 import re
 import subprocess
 import sys
+import tomllib
 import unittest
 import unittest.mock
 
 from support.live import PROGRAM, Case, command, script
-from support.needs import has, needed, skip
+from support.needs import has, needed
 
 import camac
 from camac.__main__ import main
@@ -107,10 +108,6 @@ class OfFile(Case):
         self.assertEqual([it.name for it in self.read(text).columns(3)], HOSTILE)
 
     def test_values_are_those_of_toml(self):
-        try:
-            import tomllib
-        except ImportError:
-            skip("Python 3.11")
         for value in ('"a # b"', "'a\\b'  # c", r'"\u00b5 \U0001f600 \t \" \\"', '""', '"é"'):
             text = f"[[word]]\r\ngl=1\nname = 'x'\n\tunit={value}"
             self.assertEqual(self.read(text).fields[0].unit, tomllib.loads(text)["word"][0]["unit"], value)
@@ -132,10 +129,6 @@ class OfFile(Case):
             self.assertEqual((field.bits, field.kind), ((0, bits - 1), kind), keys)
 
     def test_other_forms_of_toml(self):
-        try:
-            import tomllib
-        except ImportError:
-            skip("a Python with tomllib")
         forms = ('word = [ { gl = 3, name = "x", unit = "V" } ]', '[[word]]\ngl = 3\nname = """x"""\nunit = "V"', '[[word]]\n"gl" = 3\nname = "x"\nunit = """\nV"""')
         for text in forms:
             self.assertEqual([(it.name, it.unit) for it in self.read(text).fields], [("x", "V")], tomllib.loads(text))

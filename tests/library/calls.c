@@ -10,6 +10,9 @@
 #define MOST_BYTES 4096u /* of a struct, in any version */
 
 static text plan, script;
+/* The calls on a plan alone, and those on a script too. */
+static const int of_plan[] = {CAMAC_PLAN, CAMAC_EXPLAIN_PLAN}, of_script[] = {CAMAC_CHECK, CAMAC_EXPLAIN, CAMAC_EXPLAIN_BOUNDS, CAMAC_BOUNDS, CAMAC_COSTS};
+#define EACH(kind, kinds) for (const int *kind = kinds; kind < kinds + sizeof kinds / sizeof *kinds; kind++)
 
 /* A none: every call of a session is misuse, but close, which is harmless. */
 static void none(void) {
@@ -40,21 +43,18 @@ static void handed_in(void) {
 #define TEXTS plan.bytes, plan.size, script.bytes, script.size
 #define NO_PLAN NULL, 1, script.bytes, script.size
 #define NO_SCRIPT plan.bytes, plan.size, NULL, 1
-    IS_MISUSE(camac_tell(CAMAC_PLAN, NULL, 1, NULL, 0, out, sizeof out, &size));
+    EACH(kind, of_plan) { IS_MISUSE(camac_tell(*kind, NULL, 1, NULL, 0, out, sizeof out, &size)); }
     IS_MISUSE(camac_tell(CAMAC_PLAN, plan.bytes, plan.size, NULL, 0, NULL, 1, &size));
-    IS_MISUSE(camac_tell(CAMAC_EXPLAIN_PLAN, NULL, 1, NULL, 0, out, sizeof out, &size));
     IS_MISUSE(camac_events(NULL, 1, out, sizeof out, &size));
     IS_MISUSE(camac_events("CAMACEV2", (size_t)-1, out, sizeof out, &size));
-    IS_MISUSE(camac_tell(CAMAC_CHECK, NO_PLAN, out, sizeof out, &size));
-    IS_MISUSE(camac_tell(CAMAC_CHECK, NO_SCRIPT, out, sizeof out, &size));
-    IS_MISUSE(camac_tell(CAMAC_CHECK, TEXTS, NULL, 1, &size));
-    IS_MISUSE(camac_tell(CAMAC_EXPLAIN, NO_SCRIPT, out, sizeof out, &size));
-    IS_MISUSE(camac_tell(CAMAC_EXPLAIN_BOUNDS, NO_PLAN, out, sizeof out, &size));
+    EACH(kind, of_script) {
+        IS_MISUSE(camac_tell(*kind, NO_PLAN, out, sizeof out, &size));
+        IS_MISUSE(camac_tell(*kind, NO_SCRIPT, out, sizeof out, &size));
+        IS_MISUSE(camac_tell(*kind, TEXTS, NULL, 1, &size));
+    }
     IS_MISUSE(camac_explain_at(NO_SCRIPT, 1, 1, out, sizeof out, &size));
     IS_MISUSE(camac_explain_at(TEXTS, 0, 1, out, sizeof out, &size));
     IS_MISUSE(camac_explain_at(TEXTS, 1, 0, out, sizeof out, &size));
-    IS_MISUSE(camac_tell(CAMAC_BOUNDS, NO_PLAN, out, sizeof out, &size));
-    IS_MISUSE(camac_tell(CAMAC_COSTS, NO_SCRIPT, out, sizeof out, &size));
     IS_MISUSE(camac_response(TEXTS, NULL, 1, NULL, 0, out, sizeof out, &size));
     IS_MISUSE(camac_response(TEXTS, NULL, 0, NULL, 1, out, sizeof out, &size));
     IS_MISUSE(camac_run(TEXTS, NULL, 1, out, sizeof out, &size, file, sizeof file, &file_size));
@@ -132,39 +132,28 @@ static void texts(void) {
     EXPECT(CAMAC_OK, camac_tell(CAMAC_CHECK, plan.bytes, plan.size, script.bytes, script.size, NULL, 0, NULL));
     EXPECT(CAMAC_OK, camac_tell(CAMAC_CHECK, plan.bytes, plan.size, script.bytes, script.size, NULL, 0, &part));
     if (part != size) fail("the length without a buffer is %zu, not %zu", part, size);
-    EXPECT(CAMAC_OK, camac_tell(CAMAC_PLAN, plan.bytes, plan.size, NULL, 0, out, sizeof out, &size));
-    EXPECT(CAMAC_OK, camac_tell(CAMAC_EXPLAIN_PLAN, plan.bytes, plan.size, NULL, 0, out, sizeof out, &size));
-    EXPECT(CAMAC_OK, camac_tell(CAMAC_EXPLAIN, plan.bytes, plan.size, script.bytes, script.size, out, sizeof out, &size));
-    EXPECT(CAMAC_OK, camac_tell(CAMAC_EXPLAIN_BOUNDS, plan.bytes, plan.size, script.bytes, script.size, out, sizeof out, &size));
-    EXPECT(CAMAC_OK, camac_tell(CAMAC_BOUNDS, plan.bytes, plan.size, script.bytes, script.size, out, sizeof out, &size));
-    EXPECT(CAMAC_OK, camac_tell(CAMAC_COSTS, plan.bytes, plan.size, script.bytes, script.size, out, sizeof out, &size));
+    EACH(kind, of_plan) {
+        EXPECT(CAMAC_OK, camac_tell(*kind, plan.bytes, plan.size, NULL, 0, out, sizeof out, &size));
+        EXPECT(CAMAC_REFUSED, camac_tell(*kind, "[[", 2, NULL, 0, out, sizeof out, &size));
+    }
+    EACH(kind, of_script) {
+        EXPECT(CAMAC_OK, camac_tell(*kind, plan.bytes, plan.size, script.bytes, script.size, out, sizeof out, &size));
+        EXPECT(CAMAC_REFUSED, camac_tell(*kind, plan.bytes, plan.size, "!", 1, out, sizeof out, &size));
+        if (size < 28 || memcmp(out, "refused S1 line 1: bad byte\n", 28)) fail("a refusal says otherwise");
+    }
     EXPECT(CAMAC_OK, camac_events("CAMACEV2", 8, out, sizeof out, &size));
-    EXPECT(CAMAC_REFUSED, camac_tell(CAMAC_PLAN, "[[", 2, NULL, 0, out, sizeof out, &size));
-    EXPECT(CAMAC_REFUSED, camac_tell(CAMAC_EXPLAIN_PLAN, "[[", 2, NULL, 0, out, sizeof out, &size));
-    EXPECT(CAMAC_REFUSED, camac_tell(CAMAC_CHECK, plan.bytes, plan.size, "!", 1, out, sizeof out, &size));
-    if (size != 27 || memcmp(out, "refused S1 line 1: bad byte", 27)) size--;
-    if (size != 27 || memcmp(out, "refused S1 line 1: bad byte", 27)) fail("a refusal says otherwise");
-    EXPECT(CAMAC_REFUSED, camac_tell(CAMAC_EXPLAIN, plan.bytes, plan.size, "!", 1, out, sizeof out, &size));
-    EXPECT(CAMAC_REFUSED, camac_tell(CAMAC_EXPLAIN_BOUNDS, plan.bytes, plan.size, "!", 1, out, sizeof out, &size));
     EXPECT(CAMAC_REFUSED, camac_explain_at(plan.bytes, plan.size, script.bytes, script.size, 1, 1, out, sizeof out, &size));
     if (size != 20 || memcmp(out, "no statement at 1:1\n", 20)) fail("a place without a statement says otherwise");
     EXPECT(CAMAC_REFUSED, camac_explain_at(plan.bytes, plan.size, "!", 1, 1, 1, out, sizeof out, &size));
-    EXPECT(CAMAC_REFUSED, camac_tell(CAMAC_BOUNDS, plan.bytes, plan.size, "!", 1, out, sizeof out, &size));
-    EXPECT(CAMAC_REFUSED, camac_tell(CAMAC_COSTS, plan.bytes, plan.size, "!", 1, out, sizeof out, &size));
     EXPECT(CAMAC_REFUSED, camac_events("CAMACEV", 7, out, sizeof out, &size));
     EXPECT(CAMAC_REFUSED, camac_run(plan.bytes, plan.size, script.bytes, script.size, "?", 1, out, sizeof out, &size, cut, sizeof cut, &part));
     memset(long_text, ' ', sizeof long_text);
     EXPECT(CAMAC_OK, camac_tell(CAMAC_CHECK, plan.bytes, plan.size, long_text, CAMAC_TEXT_BYTES, out, sizeof out, &size));
     out[0] = '#';
 #define IS_LONG(call) EXPECT(CAMAC_LONG, call); if (size || out[0] != '#') fail("line %d: a text too long has a result", __LINE__)
-    IS_LONG(camac_tell(CAMAC_PLAN, long_text, CAMAC_TEXT_BYTES + 1, NULL, 0, out, sizeof out, &size));
-    IS_LONG(camac_tell(CAMAC_EXPLAIN_PLAN, long_text, CAMAC_TEXT_BYTES + 1, NULL, 0, out, sizeof out, &size));
-    IS_LONG(camac_tell(CAMAC_CHECK, plan.bytes, plan.size, long_text, CAMAC_TEXT_BYTES + 1, out, sizeof out, &size));
-    IS_LONG(camac_tell(CAMAC_EXPLAIN, plan.bytes, plan.size, long_text, CAMAC_TEXT_BYTES + 1, out, sizeof out, &size));
-    IS_LONG(camac_tell(CAMAC_EXPLAIN_BOUNDS, plan.bytes, plan.size, long_text, CAMAC_TEXT_BYTES + 1, out, sizeof out, &size));
+    EACH(kind, of_plan) { IS_LONG(camac_tell(*kind, long_text, CAMAC_TEXT_BYTES + 1, NULL, 0, out, sizeof out, &size)); }
+    EACH(kind, of_script) { IS_LONG(camac_tell(*kind, plan.bytes, plan.size, long_text, CAMAC_TEXT_BYTES + 1, out, sizeof out, &size)); }
     IS_LONG(camac_explain_at(plan.bytes, plan.size, long_text, CAMAC_TEXT_BYTES + 1, 1, 1, out, sizeof out, &size));
-    IS_LONG(camac_tell(CAMAC_BOUNDS, plan.bytes, plan.size, long_text, CAMAC_TEXT_BYTES + 1, out, sizeof out, &size));
-    IS_LONG(camac_tell(CAMAC_COSTS, plan.bytes, plan.size, long_text, CAMAC_TEXT_BYTES + 1, out, sizeof out, &size));
     IS_LONG(camac_run(plan.bytes, plan.size, long_text, CAMAC_TEXT_BYTES + 1, "", 0, out, sizeof out, &size, cut, sizeof cut, &part));
     IS_LONG(camac_events(long_text, CAMAC_FILE_BYTES + 1, out, sizeof out, &size));
     camac_session s = CAMAC_NONE;

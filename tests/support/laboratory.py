@@ -4,6 +4,7 @@ import html.parser
 import os
 import random
 import re
+from unittest import mock
 
 from support.live import PROGRAM, Case
 from support.program import called
@@ -301,3 +302,10 @@ class BenchCase(Case):
     def setUp(self):
         super().setUp()
         self.inputs = Inputs(*self.files)
+
+    def another_program(self, *cases):
+        """The program, but for some of its commands: these cases of sh."""
+        lines = "#!/bin/sh", "case $1 in", *cases, f"*) exec '{PROGRAM}' \"$@\" ;;", "esac"
+        other = self.write("other", "".join(f"{it}\n" for it in lines))
+        other.chmod(0o755)
+        return mock.patch.dict(os.environ, {"CAMAC_PROGRAM": str(other)})

@@ -6,6 +6,8 @@ import unittest
 from support.program import TOP, folder
 
 TAKEN = ("camac", "install", "crates.txt", "crates.sum", "crates", "tools", "man", "completions", "editors", "include", "library", "python", "examples", "docs", "tests", "CHANGELOG.md", "README.md", "LICENSE")
+# Of what the library for C is made.
+OF_LIBRARY = "crates/*/src tools/library_main.text"
 
 
 def copy(folder):
@@ -28,6 +30,16 @@ def call(*words, given="", **how):
     ran = start(*words, **how)
     out, err = ran.communicate(given)
     return ran.returncode, out, err
+
+
+def keep(top, name, file, texts):
+    """Puts a file where a build of the sources of a copy keeps what it makes of these texts."""
+    line = f'top=$1; source "$top/tools/program.bash"; cd "$top" && texts_of {texts} && echo "$(rt version | sha256sum)"'
+    texts, kit = call("bash", "-c", line, "bash", top)[1].splitlines()
+    place = top / "out" / name.format(f"{texts}.{kit[:16]}")
+    place.parent.mkdir(exist_ok=True)
+    shutil.copy(file, place)
+    place.chmod(0o755)
 
 
 def stand_in(folder, name, line):

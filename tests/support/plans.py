@@ -25,7 +25,8 @@ FIELDS = [
 ]
 
 TYPE = '[[type]]\nname = "ADC"\ncommands = [ { f = 0, a = 0, to = 11 } ]\n'
-CRATE = '[[crate]]\nnumber = 1\n[[crate.station]]\nn = 5\ntype = "ADC"\n'
+STATION = '[[crate.station]]\nn = 5\ntype = "ADC"\n'
+CRATE = f"[[crate]]\nnumber = 1\n{STATION}"
 
 # A mistake in a plan, the plan, the rule, and what is said of the case.
 MISTAKES = [
@@ -46,6 +47,10 @@ MISTAKES = [
     ("a type too many", "".join(TYPE.replace("ADC", f"ADC-{i}") for i in range(65)), "P4", "type `ADC-64`: there are at most 64 types."),
     ("a name twice", TYPE + TYPE, "P8", "second entry of `type`, name: the value is `ADC`, which is already used at first entry of `type`."),
     ("a bit in two crates", TYPE + CRATE + "gl = 3\n" + CRATE.replace("number = 1", "number = 2").replace("n = 5", "n = 7") + "gl = 3\n", "P9", "crate 2, station 7, gl: the value is 3, which is already used at crate 1, station 5."),
+    ("commands as texts", TYPE.replace("{ f = 0, a = 0, to = 11 }", '"F0 A0"'), "P3", "type `ADC`, commands: the first entry is of the kind string; expected a table, such as `{ f = 0, a = 0 }`."),
+    ("two modules at one station", TYPE + CRATE + STATION, "P6", "crate 1, station 5, n: the value is 5, which is already used at crate 1, first entry of `station`."),
+    ("a bit of two stations", TYPE + CRATE + "gl = 2\n" + STATION.replace("5", "4") + "gl = 2\n", "P9", "crate 1, station 4, gl: the value is 2, which is already used at crate 1, station 5."),
+    ("a command twice", TYPE.replace("to = 11 }", "to = 3 }, { f = 9, a = 0 }, { f = 0, a = 3 }"), "P8", "type `ADC`, third command: F0 at A3 is declared already, at the first command."),
     ("a key twice", "buffer = 1\nbuffer = 2\n", "P1", "Line 2, column 1: duplicate key."),
     ("a comment of another language", TYPE + "// the crates\n", "P1", "Line 4, column 1: "),
     ("many brackets", TYPE + "crate = " + 17 * "[", "P11", "Line 4, column 24: this is 17 deep."),

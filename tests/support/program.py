@@ -11,6 +11,8 @@ import tempfile
 import time
 import unittest
 
+from support.needs import skip
+
 TOP = pathlib.Path(__file__).resolve().parent.parent.parent
 # Tests import what they try: `camac`, `oracle` and `rounds`.
 sys.path[:0] = [str(TOP / "python"), str(TOP / "tools")]
@@ -100,6 +102,18 @@ class Room(unittest.TestCase):
     def shell(self, line):
         """The same of a line of bash, in which $camac is the program."""
         return ran(["bash", "-c", line], cwd=self.room, stdin=subprocess.DEVNULL, env={**os.environ, "camac": PROGRAM})
+
+    def on_small_disk(self, line, **environment):
+        """The same of a line of bash in which `small` is a disk of 64 KiB, which is seen by the line alone. Then what is on it is copied into `kept`."""
+        words = ["unshare", "--mount", *(["--map-root-user"] if os.getuid() else []), "bash", "-c"]
+        line = f"mkdir small && mount -t tmpfs -o size=64k none small || exit 77\n{line}\nstatus=$?; mkdir kept; cp small/* kept 2>&-; exit $status"
+        try:
+            done = ran([*words, line], cwd=self.room, env={**os.environ, "camac": PROGRAM, **environment})
+        except FileNotFoundError:
+            skip("util-linux")
+        if done[0] == 77 or done[2].startswith(b"unshare: "):
+            skip("a disk that can be mounted")
+        return done
 
     def package(self, *words, given=b"", **environment):
         """The same of `python3 -m camac` over the program, as texts."""

@@ -123,7 +123,3 @@ ROWS = {it.stem: read_rows(it.name, it.read_text()) for it in sorted((TOP / "tes
 ROWS["response"]["each_bit"] = [each_bit()]
 SAMPLE = ROWS["plans"]["plan_listing"][1].inputs["PLAN"]
 STRAIGHT_LINE = ROWS["check"]["straight_line"][0]
-# A file of version One: an event of one word.
-FILE_ONE = b"CAMACEV1" + bytes.fromhex("ca4d 0003 00000001 0001 00000fff")
-# A file of version Two: the event of a service that cost three cycles.
-FILE_TWO = b"CAMACEV2" + bytes.fromhex("ca4d 0003 00000001 00000003 0000 0001 00000fff")

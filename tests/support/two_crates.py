@@ -166,11 +166,11 @@ class Written:
         self.end(5)
 
 
-def long_run(services, asked=None):
+def long_run(services, asked=None, is_tick=lambda at: at % 5 == 4):
     """A run of so many services: each fifth one is a tick, and behind each seventh one nobody calls. `asked` are columns of the words."""
     written = Written()
     for at in range(services):
-        if at % 5 == 4:
+        if is_tick(at):
             written.tick()
         else:
             written.adc()

@@ -6,10 +6,9 @@ from oracle.comparing import Comparison, Judge
 from oracle.judges import also, at, expected, keeps, mark, response
 from oracle.reader.engines import tell
 from oracle.reader.refusals import TEXTS
-from oracle.reader.toml_text import READS_ALL
 
-CODES = tuple(it for it in (*TEXTS, "G4") if READS_ALL or it != "P1")
-LATE = "response", "E12", "words", "without a number", "above a promise", "end reached", "end reached by a later call", *response.UNKEPT
+CODES = *TEXTS, "G4"
+LATE = "response", "E12", "words", "without a number", "above a promise", *response.UNKEPT
 
 
 def judge_answers(comparison: Comparison) -> None:
@@ -27,6 +26,6 @@ JUDGES = {
         Judge("also", "explain: the further refusals", also.judge, ("also L", "also E")),
         Judge("expected", "explain: the words and signs that would fit in the place of the one found", expected.judge, ("set",)),
         Judge("keeps", "camac-check --keeps: each proposal", keeps.judge, ("each", "keep", "guard", "heading", "needed", "alone")),
-        Judge("response", "response: its lines, and its law along runs", response.judge, LATE),
+        Judge("response", "response: its lines", response.judge, LATE),
     )
 }

@@ -1,6 +1,7 @@
 """A plan, as the tables of its TOML text spell it; and the links of a script to it: LAMs to stations and services to graded-L bits."""
 from __future__ import annotations
 
+import pathlib
 import re
 from typing import Any, Dict, Iterator, List, NamedTuple, Optional, Set, Tuple
 
@@ -20,6 +21,7 @@ CONTROLLER = {
 }
 CONTROLLER_STATIONS = (28, 30)
 DEEPEST = 16
+SAMPLE = (pathlib.Path(__file__).resolve().parents[3] / "examples/sample_plan.toml").read_bytes()
 PIECES = re.compile(
     rb'(?s)"""(?:\\.|(?!""")[^\\])*"*|\'\'\'(?:(?!\'\'\').)*\'*'  # strings of several lines
     rb'|"(?:\\.|[^"\\\n])*"?|\'[^\'\n]*\'?|#[^\n]*'  # strings of one line, comments
@@ -211,28 +213,6 @@ def read_crate(table: Table, plan: Plan, bits: List[int]) -> None:
 def sample_plan() -> Plan:
     """The plan that the word `@sample` stands for."""
     return read_plan(SAMPLE)
-
-
-SAMPLE = b"""[[type]]
-name = "ADC"
-commands = [ { f = 0, a = 0, to = 11, width = 12 },
-  { f = 0, a = 12, to = 15, probe = true }, { f = 8, a = 12 },
-  { f = 10, a = 12 }, { f = 24, a = 12 }, { f = 26, a = 12 } ]
-[[type]]
-name = "REG"
-commands = [ { f = 16, a = 0, width = 8 }, { f = 0, a = 0 },
-  { f = 27, a = 0 }, { f = 5, a = 0 } ]
-[[crate]]
-number = 1
-waits = 2
-[[crate.station]]
-n = 5
-type = "ADC"
-gl = 3
-[[crate.station]]
-n = 6
-type = "REG"
-"""
 
 
 def link_faults(script: Script, plan: Plan, is_judging_events: bool = True) -> Iterator[Refused]:
