@@ -31,4 +31,4 @@ outputs contents holds out events = record { listing = contents out; events = ho
 
 -- these bytes are on the disk, or nothing was written
 abbrev pub IsKept : (begun : Option (List ℕ)) → (saves : Option (List ℕ) → Bool) → Option (List ℕ) → Type 0
-IsKept begun saves bytes = Keeps begun bytes ⊎ (saves bytes ≡ true)
+IsKept begun saves bytes = (bytes ≡ begun) ⊎ (saves bytes ≡ true)

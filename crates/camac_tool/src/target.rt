@@ -1,7 +1,6 @@
 // The event file of a run. Nothing but an older event file is lost by it, and no run ends well before it is on the disk.
 
 ghost use Rattle.std.specs.Prelude.{◌≡◌, ◌⊎◌, ◌↔◌, ℕ, Bool, true, false, List, Option, None, IfErr, IfOk, IsOk, IsOkAnd, OnErr, codes};
-ghost use Rattle.std.specs.Io.KnownBytes.{Keeps};
 ghost use Rattle.camac_tool_host.specs.Apart.{Differs, DiffersFromOutputs, IsApart, IsApartFrom, IsNamed, IsTaken, Meets, PlanDiffers, PlanMeets, is_same, words_of};
 ghost use Rattle.camac_tool.specs.Devices.{IsKept};
 ghost use Rattle.camac_engines.specs.declared.fault.ToolFault.TheVariants.{Write as write-fault};
@@ -129,7 +128,7 @@ pub struct NewFile<'a, H: Host, K: Failing, S: Saving> {
     ghost saves: { (bytes : Option (List ℕ)) → H.saved host.now (words_of words) bytes ≡ S.saves bytes },
     ghost fails: { H.fails host.now ≡ K.fails },
     ghost cause: { failed ≡ true → K.fails ≡ true },
-    ghost made: { Keeps S.begun (H.holds events) ⊎ (H.made host.now (words_of words) events ≡ true) },
+    ghost unmade: { H.made host.now (words_of words) events ≡ false → H.holds events ≡ S.begun },
 }
 
 impl<'a, H: Host, K: Failing, S: Saving> NewFile<'a, H, K, S> {

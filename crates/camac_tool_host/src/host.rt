@@ -117,6 +117,7 @@ pub trait Host {
         ensures remains { (w : Words) → made self.now w events.old ≡ true → made self.now w events.new ≡ true }
         ensures bound { WritesAtMost result bytes.now }
         ensures bytes { WriteAppends (holds events.old) (holds events.new) result bytes.now }
+        ensures same { OnErr result (holds events.new ≡ holds events.old) }
         ensures fails { is_write_failure result bytes.now ≡ true → fails self.now ≡ true };
 
     /// Waits until EVENTS is on its disk, where it was made, and is a regular file.
