@@ -177,13 +177,3 @@ no_run w after s is = (Err Memory, s, runs, (beginning _ _ (Keeps-refl _), begin
 -- of memory and of what cannot be read the status is 3, whichever call failed last
 pub memory_ends : (s : ℕ) → EndsStopped Memory s → s ≡ 3
 memory_ends s e = e.1
-
--- what EVENTS holds is on the disk, or nothing was written
-pub kept : (begun holds : Option (List ℕ)) (saves : Option (List ℕ) → Bool) (made : Bool) → (made ≡ false → holds ≡ begun) → (made ≡ true → saves holds ≡ true) → IsKept begun saves holds
-kept begun holds saves true unmade saved = inr (saved refl)
-kept begun holds saves false unmade saved = inl (unmade refl)
-
--- a call that fails makes no EVENTS
-pub not_made : (begun before after : Option (List ℕ)) (old new : Bool) → (old ≡ true → new ≡ true) → (old ≡ false → before ≡ begun) → after ≡ before → new ≡ false → after ≡ begun
-not_made begun before after true new remains unmade same none = let no : true ≡ false = sym (remains refl) ∙ none in cc
-not_made begun before after false new remains unmade same none = same ∙ unmade refl
