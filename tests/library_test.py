@@ -131,7 +131,7 @@ service adc within 9 cycles event 300 words {
   cclc adc
 }
 """
-ARCHIVE_BYTES = 1_335_000
+ARCHIVE_BYTES = 1_330_000
 NEEDED = {"malloc", "realloc", "free", "memcpy", "memmove", "memset"}
 ESONE = """
 void cdreg(int *ext, int b, int c, int n, int a);
