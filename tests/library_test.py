@@ -55,7 +55,7 @@ proc one(a in 0..11, v in 0..0) within 3 cycles event 0 words steps 2 {
 }
 service adc within 9 cycles event 0 words {
   call one(3, 0)
-  call one(4, 0)
+  call one((9 - 1) / 2, 0)
   cclc adc
 }
 """
